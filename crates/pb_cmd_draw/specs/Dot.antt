@@ -21,7 +21,7 @@ use Rattle.pb_draw_layout.specs.declared.scene.LinkMark.{LinkMark}
 use Rattle.pb_draw_layout.specs.declared.scene.PortMark.{PortMark}
 use Rattle.pb_draw_layout.specs.declared.scene.Scene.{Scene}
 
--- the end of a list of attributes: how a part stands out
+-- the end of an attribute list, with the style of a tone
 abbrev pub tone_style : Tone → List ℕ
 tone_style Plain = codes "\"];\n"
 tone_style Lit = codes "\", penwidth=3];\n"
@@ -32,7 +32,7 @@ abbrev pub active_style : Bool → List ℕ
 active_style true = []
 active_style false = codes "style=dashed, color=gray50, "
 
--- how an end of a link is drawn
+-- the arrow shape for the state of a link's end
 abbrev pub arrow_word : PortState → List ℕ
 arrow_word Discarding = codes "box"
 arrow_word Learning = codes "odot"
@@ -45,60 +45,72 @@ colour_code colour =
     else if colour == 3 then codes "#cc79a7" else if colour == 4 then codes "#56b4e9" else if colour == 5 then codes "#d55e00"
     else if colour == 6 then codes "#aa4499" else codes "#999933"
 
--- the node of a bridge
+-- the beginning of a bridge's node
 abbrev pub node_head : ℕ → List ℕ → List ℕ
 node_head number name = codes "b" ++ decimal number ++ codes " [shape=box, label=\"" ++ name ++ codes "\", tooltip=\""
 
+-- the node of a bridge
 abbrev pub known_node : BridgePlan → BridgeMark → List ℕ
 known_node b mark = node_head mark.facts.number b.name ++ bridge_words b ++ tone_style mark.facts.tone
 
+-- the node of the bridge with the mark's number
 abbrev pub bridge_node : Plan → BridgeMark → List ℕ
 bridge_node plan mark = unwrap_or (option_map (λ b. known_node b mark) (numbered plan.bridges mark.facts.number)) []
 
--- the edge of a link: its bridges with their ports, its name, and the states of its ends
+-- the nodes and ports at the ends of a link's edge
 abbrev pub edge_ends : LinkPlan → List ℕ
 edge_ends link =
     codes "b" ++ decimal link.a.bridge ++ codes " -- b" ++ decimal link.b.bridge ++ codes " [taillabel=\"" ++ decimal link.a.port
     ++ codes "\", headlabel=\"" ++ decimal link.b.port ++ codes "\", dir=both, "
 
+-- the arrows of a link's edge, by the states of its ends, and its style
 abbrev pub arrows_text : LinkFacts → List ℕ
 arrows_text facts = codes "arrowtail=" ++ arrow_word facts.a ++ codes ", arrowhead=" ++ arrow_word facts.b ++ codes ", " ++ active_style facts.active
 
+-- the label of a link's edge
 abbrev pub edge_label : LinkPlan → List ℕ
 edge_label link = codes "label=\"" ++ link.name ++ losing_word link ++ codes "\", tooltip=\""
 
+-- the beginning of a link's edge, up to its tooltip
 abbrev pub edge_head : LinkPlan → LinkFacts → List ℕ
 edge_head link facts = edge_ends link ++ arrows_text facts ++ edge_label link
 
+-- the edge of a link
 abbrev pub known_edge : Plan → LinkPlan → LinkFacts → List ℕ
 known_edge plan link facts = edge_head link facts ++ link_words plan link facts ++ tone_style facts.tone
 
+-- the edge of the link with the mark's number
 abbrev pub link_edge : Plan → LinkMark → List ℕ
 link_edge plan mark = unwrap_or (option_map (λ link. known_edge plan link mark.facts) (numbered plan.links mark.facts.number)) []
 
--- the node of a customer port, and the edge to its bridge
+-- the beginning of a customer port's node
 abbrev pub leaf_head : List ℕ → List ℕ → PortFacts → List ℕ
 leaf_head name service facts =
     codes "p" ++ decimal facts.number ++ codes " [color=\"" ++ colour_code (colour_of facts.service) ++ codes "\", label=\"" ++ name ++ codes " " ++ service
     ++ codes "\", tooltip=\""
 
+-- the node of a customer port
 abbrev pub leaf_node : Plan → CustomerPlan → List ℕ → PortFacts → List ℕ
 leaf_node plan c service facts = leaf_head c.name service facts ++ port_words plan c service ++ tone_style facts.tone
 
+-- the beginning of the edge from a bridge to a customer port
 abbrev pub leaf_edge : ℕ → PortFacts → List ℕ
 leaf_edge bridge facts =
     codes "b" ++ decimal bridge ++ codes " -- p" ++ decimal facts.number ++ codes " [color=\"" ++ colour_code (colour_of facts.service)
 
+-- the node of a customer port, and its edge to the bridge
 abbrev pub known_leaf : Plan → CustomerPlan → PortFacts → List ℕ
 known_leaf plan c facts = leaf_node plan c (service_name plan facts.service) facts ++ leaf_edge c.bridge facts ++ tone_style facts.tone
 
+-- the node and the edge of the customer port with the mark's number
 abbrev pub port_node : Plan → PortMark → List ℕ
 port_node plan mark = unwrap_or (option_map (λ c. known_leaf plan c mark.facts) (numbered plan.customers mark.facts.number)) []
 
--- all parts, in order
+-- the nodes and edges of all parts, in order
 abbrev pub parts_text : Plan → Scene → List ℕ
 parts_text plan scene =
     flat_map (bridge_node plan) scene.bridges ++ flat_map (link_edge plan) scene.links ++ flat_map (port_node plan) scene.ports
 
+-- the graph
 abbrev pub dot_text : Plan → Scene → List ℕ
 dot_text plan scene = codes "graph network {\n" ++ parts_text plan scene ++ codes "}\n"

@@ -1,4 +1,4 @@
--- The command: ends of links go down, the bridges settle, and the network is drawn.
+-- The command: ports are disabled, the bridges converge, and the network is drawn.
 use Rattle.std.specs.Prelude.{◌≡◌, ◌⊎◌, ℕ, Bool, true, false, List, [], Some, None, nat_lt}
 use Rattle.std.specs.Borrow.{Bor}
 use Rattle.std.specs.Io.KnownBytes.{Appends}
@@ -23,47 +23,48 @@ use Rattle.pb_cmd_draw.specs.declared.end.DrawEnd.{DrawEnd}
 use Rattle.pb_cmd_draw.specs.declared.end.DrawEnd.TheVariants.{Drawn, Refused, NoPort, NoService}
 use Rattle.pb_draw_layout.specs.declared.scene.Scene.{Scene}
 
--- the plan has the service that is to stand out, if one is; and its number
+-- the plan has the service to highlight, if one is requested
 abbrev pub is_found : Plan → Option (Bor (List ℕ)) → Bool
 is_found plan None = true
 is_found plan (Some name) = nat_lt 0 (service_named plan name.now)
 
+-- the number of the service to highlight, if one is requested
 abbrev pub chosen_of : Plan → Option (Bor (List ℕ)) → Option ℕ
 chosen_of plan None = None
 chosen_of plan (Some name) = Some (service_named plan name.now)
 
--- a scene in one of the forms
+-- the picture of a scene in a format
 abbrev pub picture_text : Format → Plan → Scene → List ℕ
 picture_text Svg plan scene = svg_text plan scene
 picture_text Dot plan scene = dot_text plan scene
 
--- the text draws each part of the network, as it is in the shape, with this service standing out or none
+-- the picture of each part of the network, as it is in the shape, with this service highlighted or none
 pub record IsPictureOf (plan : Plan) (shape : Shape) (chosen : Option ℕ) (format : Format) (text : List ℕ) : Type 0 where
   pub scene : Scene
   pub is_scene : IsSceneOf plan shape chosen scene
   pub text_is : text ≡ picture_text format plan scene
 
--- the bridges ticked so often at most, and this is the picture of how they stand then
+-- each bridge ticks at most so many times, and the picture has the states at the end
 pub record IsDrawingFrom (plan : Plan) (asked : Asked) (fallen : NetView) (rest : Rest) (text : List ℕ) : Type 0 where
   pub last : NetView
   pub rested : HasRested asked.ticks 1000000000 rest fallen last
   pub picture : IsPictureOf plan (last_shape plan last.rec) (chosen_of plan asked.service) asked.format text
 
--- the ends that are named went down before
+-- the named ports are disabled first
 pub record IsDrawing (plan : Plan) (asked : Asked) (rest : Rest) (text : List ℕ) : Type 0 where
   pub found : is_found plan asked.service ≡ true
   pub fallen : NetView
   pub falls : HaveFallen plan asked.downs.now fallen
   pub drawing : IsDrawingFrom plan asked fallen rest text
 
--- the picture; or nothing, where words name no end of a link, or the plan lacks the service
+-- the picture; or nothing, if an argument names no end of a link or the plan lacks the service
 abbrev pub HasDrawn : Plan → Asked → DrawEnd → List ℕ → Type 0
 HasDrawn plan asked (Drawn rest) text = IsDrawing plan asked rest text
 HasDrawn plan asked (NoPort index) text = LacksEnd plan asked.downs.now index × (text ≡ [])
 HasDrawn plan asked NoService text = (is_found plan asked.service ≡ false) × (text ≡ [])
 HasDrawn plan asked Refused text = ⊥
 
--- what was written of the plan that the file tells
+-- what was written for the plan in the file
 pub record HasWritten (file : List ℕ) (asked : Asked) (end : DrawEnd) (before after : Option (List ℕ)) : Type 0 where
   pub plan : Plan
   pub told : IsToldBy file plan
@@ -71,6 +72,6 @@ pub record HasWritten (file : List ℕ) (asked : Asked) (end : DrawEnd) (before 
   pub written : Appends before after text
   pub drawn : HasDrawn plan asked end text
 
--- what the command has done: that, or the rule was written that the file breaks
+-- what the command has written: the picture, or the rule that the file breaks
 abbrev pub HasTold : List ℕ → Asked → DrawEnd → Option (List ℕ) → Option (List ℕ) → Type 0
 HasTold file asked end before after = HasWritten file asked end before after ⊎ ((end ≡ Refused) × PrintsRefusal file before after)

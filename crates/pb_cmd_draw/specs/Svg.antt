@@ -10,28 +10,31 @@ use Rattle.pb_draw_layout.specs.declared.scene.Point.{Point}
 use Rattle.pb_draw_layout.specs.declared.scene.Scene.{Scene}
 use Rattle.pb_cmd_draw.specs.declared.style.TheConstants.{STYLE}
 
--- the colour of what is lit: that of the service that is chosen
+-- the opening tag of the group of all elements, with the colour of the highlighted service
 abbrev pub group_text : Option ℕ → List ℕ
 group_text None = codes "<g>\n"
 group_text (Some service) = codes "<g class=\"c" ++ decimal (colour_of service) ++ codes "\">\n"
 
--- what stands before all elements: the size, how much there is, how things look, and the ground
+-- the opening tag, with the size of the picture
 abbrev pub opening_text : Point → List ℕ
 opening_text size =
     codes "<svg xmlns=\"http://www.w3.org/2000/svg\" width=\"" ++ decimal size.x ++ codes "\" height=\"" ++ decimal size.y
     ++ codes "\" viewBox=\"0 0 " ++ decimal size.x ++ codes " " ++ decimal size.y ++ codes "\">\n"
 
+-- the number of bridges and links, as the picture's title
 abbrev pub counts_text : Scene → List ℕ
 counts_text scene = codes "<title>Bridges " ++ decimal (length scene.bridges) ++ codes ", links " ++ decimal (length scene.links) ++ codes "</title>\n"
 
+-- the background
 abbrev pub ground_text : Point → List ℕ
 ground_text size = codes "<rect class=\"ground\" width=\"" ++ decimal size.x ++ codes "\" height=\"" ++ decimal size.y ++ codes "\"/>\n"
 
+-- all that comes before the elements
 abbrev pub head_text : Scene → List ℕ
 head_text scene =
     opening_text scene.size ++ counts_text scene ++ STYLE.now ++ ground_text scene.size ++ group_text scene.chosen
 
--- one element for each part, in order; links have two: their lines come first, and their names and ends behind the boxes
+-- an element for each part, in order; links have two: their lines come first, and their names and ends after the boxes
 abbrev pub elements_text : Plan → Scene → List ℕ
 elements_text plan scene =
     flat_map (link_element plan) scene.links
@@ -40,5 +43,6 @@ elements_text plan scene =
     ++ flat_map (ends_element plan) scene.links
     ++ flat_map (service_element plan) scene.services
 
+-- the picture
 abbrev pub svg_text : Plan → Scene → List ℕ
 svg_text plan scene = head_text scene ++ elements_text plan scene ++ codes "</g>\n</svg>\n"

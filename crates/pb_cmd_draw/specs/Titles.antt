@@ -1,4 +1,4 @@
--- What is told of the parts of a network, where the pointer rests on them.
+-- The titles of the parts of a network, which a viewer shows under the pointer.
 use Rattle.std.specs.Prelude.{ℕ, List, [], ◌++◌, length, codes, if◌then◌else◌}
 use Rattle.std.specs.Fmt.{decimal}
 use Rattle.pb_forest.specs.ServiceVids.{vid_numbered}
@@ -17,10 +17,11 @@ use Rattle.pb_draw_layout.specs.declared.facts.LinkFacts.{LinkFacts}
 abbrev pub bridge_words : BridgePlan → List ℕ
 bridge_words b = codes "bridge " ++ b.name ++ codes ", address " ++ mac_text b.address.0 ++ codes ", priority " ++ decimal b.priority
 
--- an end of a link, and what the link loses
+-- an end of a link: its bridge, its port and the port's state
 abbrev pub end_words : Plan → End → PortState → List ℕ
 end_words plan e state = bridge_name plan e.bridge ++ codes " port " ++ decimal e.port ++ codes " " ++ state_word state
 
+-- the number of frames that a link loses in each direction, if it loses any
 abbrev pub losses_text : Plan → LinkPlan → List ℕ
 losses_text plan link =
     if is_lossless link then [] else
@@ -32,7 +33,7 @@ abbrev pub link_words : Plan → LinkPlan → LinkFacts → List ℕ
 link_words plan link facts =
     codes "link " ++ link.name ++ codes ": " ++ end_words plan link.a facts.a ++ codes ", " ++ end_words plan link.b facts.b ++ losses_text plan link
 
--- a customer port: its name, its place, its service and the VID
+-- a customer port: its name, its bridge and local port, its service and the VID
 abbrev pub port_words : Plan → CustomerPlan → List ℕ → List ℕ
 port_words plan c service =
     codes "port " ++ c.name ++ codes ": " ++ bridge_name plan c.bridge ++ codes " port " ++ decimal c.port

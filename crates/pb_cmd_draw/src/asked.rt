@@ -1,16 +1,16 @@
-//! What is asked of a plan.
+//! The options of the command.
 
 use crate::end::Format;
 
-/// What is asked of a plan.
+/// The options of the command.
 #[derive(Clone, Copy)]
 pub struct Asked<'a> {
-    /// The name of the service that is to stand out, if one is.
+    /// The name of the service to highlight, if any.
     pub service: Option<&'a str>,
-    /// The ports to other bridges that go down before, each as BRIDGE:PORT.
+    /// The ports to other bridges to disable first, each as `BRIDGE:PORT`.
     pub downs: &'a [String],
-    /// How often each bridge ticks at most.
+    /// The most ticks of each bridge until convergence.
     pub ticks: u32,
-    /// The form in which the picture is written.
+    /// The format of the picture.
     pub format: Format,
 }

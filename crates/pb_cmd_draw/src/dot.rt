@@ -1,4 +1,4 @@
-//! A scene as a graph for the programs of Graphviz.
+//! A scene as a graph for Graphviz.
 
 ghost use Rattle.std.specs.Prelude.{◌≡◌, ◌++◌, flat_map, string_bytes, OnOk};
 ghost use Rattle.pb_cmd_draw.specs.Dot.{tone_style, active_style, arrow_word, colour_code, node_head, known_node};
@@ -16,7 +16,7 @@ use pb_lan::{BridgePlan, CustomerPlan, LinkPlan, Plan, PortState};
 use pb_names::service_name;
 use std::alloc::Global;
 
-/// The end of a list of attributes: how a part stands out.
+/// Returns the end of an attribute list, with the style of a tone.
 fn tone_style(tone: Tone) -> &'static str
     ensures { result.now ≡ tone_style tone }
 {
@@ -27,7 +27,7 @@ fn tone_style(tone: Tone) -> &'static str
     }
 }
 
-/// Puts the end of a list of attributes behind a text.
+/// Appends the end of an attribute list, with the style of a tone.
 fn put_tone(out: &mut String, tone: Tone) -> Result<(), Memory>
     ensures { OnOk result (string_bytes out.new ≡ string_bytes out.old ++ tone_style tone) }
 {
@@ -35,7 +35,7 @@ fn put_tone(out: &mut String, tone: Tone) -> Result<(), Memory>
     Ok(())
 }
 
-/// What is said of whether a link is active.
+/// Returns the style of a link that is active or not.
 fn active_style(active: bool) -> &'static str
     ensures { result.now ≡ active_style active }
 {
@@ -46,7 +46,7 @@ fn active_style(active: bool) -> &'static str
     }
 }
 
-/// How an end of a link is drawn, by its state.
+/// Returns the arrow shape for the state of a link's end.
 fn arrow_word(state: PortState) -> &'static str
     ensures { result.now ≡ arrow_word state }
 {
@@ -57,7 +57,7 @@ fn arrow_word(state: PortState) -> &'static str
     }
 }
 
-/// The colour of a service.
+/// Returns the colour of a service.
 fn colour_code(service: u8) -> &'static str
     ensures { result.now ≡ colour_code (colour_of service) }
 {
@@ -73,7 +73,7 @@ fn colour_code(service: u8) -> &'static str
     }
 }
 
-/// The beginning of a bridge's node.
+/// Appends the beginning of a bridge's node.
 fn put_node_head(out: &mut String, number: u8, name: &str) -> Result<(), Memory>
     ensures { OnOk result (string_bytes out.new ≡ string_bytes out.old ++ node_head number name.now) }
 {
@@ -81,7 +81,7 @@ fn put_node_head(out: &mut String, number: u8, name: &str) -> Result<(), Memory>
     Ok(())
 }
 
-/// The node of a bridge.
+/// Appends the node of a bridge.
 fn put_known_node(
     alloc: Global,
     out: &mut String,
@@ -95,7 +95,7 @@ fn put_known_node(
     put_tone(out, mark.facts.tone)
 }
 
-/// The node of a bridge.
+/// Appends the node of the bridge with the mark's number.
 fn put_bridge(alloc: Global, out: &mut String, plan: &Plan, mark: &BridgeMark) -> Result<(), Memory>
     ensures { OnOk result (string_bytes out.new ≡ string_bytes out.old ++ bridge_node plan.now mark.now) }
 {
@@ -105,7 +105,7 @@ fn put_bridge(alloc: Global, out: &mut String, plan: &Plan, mark: &BridgeMark) -
     }
 }
 
-/// The ends of a link's edge.
+/// Appends the nodes and ports at the ends of a link's edge.
 fn put_edge_ends(out: &mut String, link: &LinkPlan) -> Result<(), Memory>
     ensures { OnOk result (string_bytes out.new ≡ string_bytes out.old ++ edge_ends link.now) }
 {
@@ -118,7 +118,7 @@ fn put_edge_ends(out: &mut String, link: &LinkPlan) -> Result<(), Memory>
     Ok(())
 }
 
-/// How a link's edge and its ends are drawn.
+/// Appends the arrows of a link's edge, and its style.
 fn put_arrows(out: &mut String, facts: LinkFacts) -> Result<(), Memory>
     ensures { OnOk result (string_bytes out.new ≡ string_bytes out.old ++ arrows_text facts) }
 {
@@ -129,7 +129,7 @@ fn put_arrows(out: &mut String, facts: LinkFacts) -> Result<(), Memory>
     Ok(())
 }
 
-/// The name of a link's edge.
+/// Appends the label of a link's edge.
 fn put_edge_label(out: &mut String, link: &LinkPlan) -> Result<(), Memory>
     ensures { OnOk result (string_bytes out.new ≡ string_bytes out.old ++ edge_label link.now) }
 {
@@ -139,7 +139,7 @@ fn put_edge_label(out: &mut String, link: &LinkPlan) -> Result<(), Memory>
     Ok(())
 }
 
-/// The beginning of a link's edge.
+/// Appends the beginning of a link's edge, up to its tooltip.
 fn put_edge_head(out: &mut String, link: &LinkPlan, facts: LinkFacts) -> Result<(), Memory>
     ensures { OnOk result (string_bytes out.new ≡ string_bytes out.old ++ edge_head link.now facts) }
 {
@@ -148,7 +148,7 @@ fn put_edge_head(out: &mut String, link: &LinkPlan, facts: LinkFacts) -> Result<
     put_edge_label(out, link)
 }
 
-/// The edge of a link.
+/// Appends the edge of a link.
 fn put_known_edge(
     out: &mut String,
     plan: &Plan,
@@ -162,7 +162,7 @@ fn put_known_edge(
     put_tone(out, facts.tone)
 }
 
-/// The edge of a link.
+/// Appends the edge of the link with the mark's number.
 fn put_link(out: &mut String, plan: &Plan, mark: &LinkMark) -> Result<(), Memory>
     ensures { OnOk result (string_bytes out.new ≡ string_bytes out.old ++ link_edge plan.now mark.now) }
 {
@@ -172,7 +172,7 @@ fn put_link(out: &mut String, plan: &Plan, mark: &LinkMark) -> Result<(), Memory
     }
 }
 
-/// The beginning of the edge from a customer port to its bridge.
+/// Appends the beginning of the edge from a bridge to a customer port.
 fn put_leaf_edge(out: &mut String, bridge: u8, facts: PortFacts) -> Result<(), Memory>
     ensures { OnOk result (string_bytes out.new ≡ string_bytes out.old ++ leaf_edge bridge facts) }
 {
@@ -182,7 +182,7 @@ fn put_leaf_edge(out: &mut String, bridge: u8, facts: PortFacts) -> Result<(), M
     Ok(())
 }
 
-/// The beginning of a customer port's node.
+/// Appends the beginning of a customer port's node.
 fn put_leaf_head(
     out: &mut String,
     name: &str,
@@ -200,7 +200,7 @@ fn put_leaf_head(
     Ok(())
 }
 
-/// The node of a customer port of a service.
+/// Appends the node of a customer port of a service.
 fn put_leaf_node(
     out: &mut String,
     plan: &Plan,
@@ -216,7 +216,7 @@ fn put_leaf_node(
     put_tone(out, facts.tone)
 }
 
-/// The node of a customer port, and its edge to the bridge.
+/// Appends the node of a customer port, and its edge to the bridge.
 fn put_known_leaf(
     out: &mut String,
     plan: &Plan,
@@ -230,7 +230,7 @@ fn put_known_leaf(
     put_tone(out, facts.tone)
 }
 
-/// The node of a customer port, and its edge to the bridge.
+/// Appends the node and the edge of the customer port with the mark's number.
 fn put_port(out: &mut String, plan: &Plan, mark: &PortMark) -> Result<(), Memory>
     ensures { OnOk result (string_bytes out.new ≡ string_bytes out.old ++ port_node plan.now mark.now) }
 {
@@ -240,7 +240,7 @@ fn put_port(out: &mut String, plan: &Plan, mark: &PortMark) -> Result<(), Memory
     }
 }
 
-/// The nodes of the bridges.
+/// Appends the nodes of the bridges.
 fn put_bridges(
     alloc: Global,
     out: &mut String,
@@ -255,7 +255,7 @@ fn put_bridges(
     Ok(())
 }
 
-/// The edges of the links.
+/// Appends the edges of the links.
 fn put_links(out: &mut String, plan: &Plan, marks: &[LinkMark]) -> Result<(), Memory>
     ensures { OnOk result (string_bytes out.new ≡ string_bytes out.old ++ flat_map (link_edge plan.now) marks.now) }
 {
@@ -265,7 +265,7 @@ fn put_links(out: &mut String, plan: &Plan, marks: &[LinkMark]) -> Result<(), Me
     Ok(())
 }
 
-/// The nodes and edges of the customer ports.
+/// Appends the nodes and edges of the customer ports.
 fn put_ports(out: &mut String, plan: &Plan, marks: &[PortMark]) -> Result<(), Memory>
     ensures { OnOk result (string_bytes out.new ≡ string_bytes out.old ++ flat_map (port_node plan.now) marks.now) }
 {
@@ -275,7 +275,7 @@ fn put_ports(out: &mut String, plan: &Plan, marks: &[PortMark]) -> Result<(), Me
     Ok(())
 }
 
-/// The nodes and edges of all parts.
+/// Appends the nodes and edges of all parts.
 fn put_parts(alloc: Global, out: &mut String, plan: &Plan, scene: &Scene) -> Result<(), Memory>
     ensures { OnOk result (string_bytes out.new ≡ string_bytes out.old ++ parts_text plan.now scene.now) }
 {
@@ -284,13 +284,15 @@ fn put_parts(alloc: Global, out: &mut String, plan: &Plan, scene: &Scene) -> Res
     put_ports(out, plan, scene.ports.as_slice())
 }
 
-/// Puts a scene of a plan behind a text, as a graph in the language DOT of Graphviz.
+/// Appends a scene of a plan as a graph in the language DOT of Graphviz.
 ///
-/// Bridges are boxes, customer ports ellipses in the colour of their service, links edges between bridges. A port that
-/// is Discarding ends in a square, one that is Learning in a ring; a link that is not active is dashed and grey. The
-/// places are Graphviz's own.
+/// Bridges are boxes, customer ports ellipses in the colour of their service, links edges between bridges. The edge
+/// ends in a square at a Discarding port, in a circle at a Learning port. A link that is not active is dashed and grey.
+/// Graphviz computes the positions itself.
 ///
-/// `Memory` is answered where memory ran out, and then a part of the graph may stand there.
+/// # Errors
+///
+/// `Memory` if an allocation failed. A part of the graph may have been appended then.
 pub fn put_dot(alloc: Global, out: &mut String, plan: &Plan, scene: &Scene) -> Result<(), Memory>
     ensures { OnOk result (string_bytes out.new ≡ string_bytes out.old ++ dot_text plan.now scene.now) }
 {

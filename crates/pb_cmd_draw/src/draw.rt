@@ -22,7 +22,7 @@ use pb_service::read_plan;
 use std::alloc::Global;
 use std::io::Write;
 
-/// Whether the plan has the service that is to stand out, if one is.
+/// Checks whether the plan has the service to highlight, if one is requested.
 fn is_found(plan: &Plan, service: Option<&str>) -> bool
     requires { IsSound plan.now }
     ensures { result ≡ is_found plan.now service.entry }
@@ -33,7 +33,7 @@ fn is_found(plan: &Plan, service: Option<&str>) -> bool
     }
 }
 
-/// The number of the service that is to stand out, if one is.
+/// Returns the number of the service to highlight, if one is requested.
 fn chosen_of(plan: &Plan, service: Option<&str>) -> Option<u8>
     requires { IsSound plan.now }
     ensures { result ≡ chosen_of plan.now service.entry }
@@ -44,7 +44,7 @@ fn chosen_of(plan: &Plan, service: Option<&str>) -> Option<u8>
     }
 }
 
-/// Puts the picture of a network behind a text, with the ports in these states.
+/// Appends the picture of a network with the ports in these states.
 fn put_picture(
     alloc: Global,
     out: &mut String,
@@ -64,7 +64,7 @@ fn put_picture(
     }
 }
 
-/// Puts the picture of the end of a record behind a text.
+/// Appends the picture of a network at the end of a record.
 fn put_last(
     alloc: Global,
     out: &mut String,
@@ -81,7 +81,7 @@ fn put_last(
     put_picture(alloc, out, plan, &shape, chosen, format)
 }
 
-/// Lets the bridges of a network settle, and puts its picture behind a text.
+/// Drives a network to convergence, and appends its picture. Returns whether the bridges converged.
 fn put_rested(
     alloc: Global,
     out: &mut String,
@@ -100,8 +100,8 @@ fn put_rested(
     Ok(rest)
 }
 
-/// Puts the picture behind a text, when the ends have gone down that words name. Where words name none, their index is
-/// answered.
+/// Disables the ports that `asked.downs` names, and appends the picture. If an argument names no end of a link, nothing
+/// is appended, and `NoPort` with its index is returned.
 fn put_fallen(
     alloc: Global,
     out: &mut String,
@@ -123,7 +123,7 @@ fn put_fallen(
     }
 }
 
-/// Puts the picture that is asked for behind a text.
+/// Appends the requested picture, or nothing if the plan lacks the service.
 fn put_drawing(
     alloc: Global,
     out: &mut String,
@@ -141,7 +141,7 @@ fn put_drawing(
     }
 }
 
-/// Writes the picture that is asked for. Where there is none, nothing is written.
+/// Writes the requested picture, or nothing if there is none.
 fn draw<W: Write>(
     alloc: Global,
     plan: &Plan,
@@ -159,18 +159,23 @@ fn draw<W: Write>(
     Ok(end)
 }
 
-/// Reads a plan file, sets ports to other bridges down, lets the bridges settle, and writes a picture of the network.
+/// Reads a plan file, disables ports, drives the bridges to convergence, and writes a picture of the network.
 ///
-/// Each of `downs` names a port to another bridge by `BRIDGE:PORT`, the bridge's name and its local port. That end of
-/// its link goes down, and its neighbour isn't told. Where the bridges decide the states of their ports (IEEE
-/// 802.1D-2004 clause 17), each ticks at most `ticks` times; the picture is drawn as they stand then, at rest or not,
-/// and `Drawn` says which. [`scene_of`] says what is drawn, and [`put_svg`] how.
+/// Each of `asked.downs` names a port to another bridge by `BRIDGE:PORT`: the name of the bridge and its local port.
+/// That end of its link is disabled; the bridge at the other end gets no sign of it. If the bridges run the rapid
+/// spanning tree (IEEE 802.1D-2004 clause 17), each takes at most `asked.ticks` ticks (seconds). The picture has the
+/// states at the end, converged or not, and `Drawn` has which. [`scene_of`] decides what is drawn, [`put_svg`] and
+/// [`put_dot`] how.
 ///
-/// Of a file that is no plan the rule is written that it breaks, as `check` does. `NoService` is answered where the
-/// plan lacks the service, and else `NoPort` where words name no port to another bridge; nothing is written then.
-/// `Memory` is answered where memory ran out, `Steps` where a place was to take more steps than the plan allows;
-/// nothing was written then. `Write` is answered where a write failed, and then nothing is said of what was written. No
-/// other fault comes.
+/// If the file is not a valid plan, the line `plan: N WORD` is written, as `check` prints it, and `Refused` is
+/// returned. `NoService` is returned if the plan lacks the service, and else `NoPort` if an argument names no port to
+/// another bridge; nothing is written in these two cases.
+///
+/// # Errors
+///
+/// `Memory` if an allocation failed, and `Steps` if a place would take more steps than the plan allows or more than
+/// 1,000,000,000 events are due. Nothing was written then. `Write` if a write failed; what was written is unknown then.
+/// `Read` never comes.
 pub fn run_draw<W: Write>(
     alloc: Global,
     file: &[u8],

@@ -1,25 +1,25 @@
-//! How the command ended, and what it is to write.
+//! How the command ends, and the formats of a picture.
 
 use pb_converge::Rest;
 
-/// The form in which a picture is written.
+/// The format of a picture.
 #[derive(Clone, Copy, Debug, PartialEq, Eq)]
 pub enum Format {
-    /// An SVG picture that stands alone.
+    /// A self-contained SVG picture.
     Svg,
-    /// A graph for the programs of Graphviz.
+    /// A graph for Graphviz.
     Dot,
 }
 
-/// How the command ended, where no fault ended it.
+/// The result of the command, if it ended without a fault.
 #[derive(Clone, Copy, Debug, PartialEq, Eq)]
 pub enum DrawEnd {
-    /// The picture was written, with the bridges at rest or not.
+    /// The picture was written, with whether the bridges converged.
     Drawn(Rest),
-    /// The file is no plan, and the rule that it breaks was written.
+    /// The file is not a valid plan, and the line `plan: N WORD` was written.
     Refused,
-    /// The words at this index, from 0, name no port to another bridge. Nothing was written.
+    /// The argument at this index, from 0, names no port to another bridge. Nothing was written.
     NoPort(usize),
-    /// The plan has no service of the name. Nothing was written.
+    /// The plan has no service with the name. Nothing was written.
     NoService,
 }

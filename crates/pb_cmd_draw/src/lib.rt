@@ -1,4 +1,6 @@
-//! Pictures of a plan's network: the command `draw`.
+//! The command `draw`: a plan's network as SVG or as a graph for Graphviz, after the bridges have converged.
+//! It builds on pb_draw_layout (what is drawn, and at which coordinates), pb_converge and pb_names.
+//! Begin reading at `draw.rt`, [`run_draw`], then [`put_svg`] or [`put_dot`].
 #![tactic(auto)]
 
 mod asked;

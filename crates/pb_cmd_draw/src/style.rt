@@ -1,7 +1,8 @@
-//! How an SVG picture looks.
+//! The style sheet of an SVG picture.
 
-/// Colours that the colour-blind tell apart, on a ground of their own that follows the reader's choice of light or
-/// dark. The classes c0 to c7 are colours of services, and d2 to d8 the dashes of bars beyond the first eight services.
+/// The style sheet. Its colours are distinct for colour-blind readers, and its background follows the reader's choice
+/// of light or dark. The classes c0 to c7 are the colours of services, and d2 to d8 the dashes of bars after the first
+/// eight services.
 pub(crate) const STYLE: &str = "\
 <style>\n\
 text { font: 11px ui-monospace, 'DejaVu Sans Mono', Menlo, Consolas, monospace; fill: #1f2328; stroke: none }\n\

@@ -15,7 +15,7 @@ use pb_frame::Memory;
 use pb_lan::Plan;
 use std::alloc::Global;
 
-/// The lines of the links.
+/// Appends the lines of the links.
 fn put_links(out: &mut String, plan: &Plan, marks: &[LinkMark]) -> Result<(), Memory>
     ensures { OnOk result (string_bytes out.new ≡ string_bytes out.old ++ flat_map (link_element plan.now) marks.now) }
 {
@@ -25,7 +25,7 @@ fn put_links(out: &mut String, plan: &Plan, marks: &[LinkMark]) -> Result<(), Me
     Ok(())
 }
 
-/// The boxes of the bridges.
+/// Appends the boxes of the bridges.
 fn put_bridges(
     alloc: Global,
     out: &mut String,
@@ -41,7 +41,7 @@ fn put_bridges(
     Ok(())
 }
 
-/// The customer ports.
+/// Appends the customer ports.
 fn put_ports(out: &mut String, plan: &Plan, marks: &[PortMark]) -> Result<(), Memory>
     ensures { OnOk result (string_bytes out.new ≡ string_bytes out.old ++ flat_map (port_element plan.now) marks.now) }
 {
@@ -51,7 +51,7 @@ fn put_ports(out: &mut String, plan: &Plan, marks: &[PortMark]) -> Result<(), Me
     Ok(())
 }
 
-/// The names and the ends of the links.
+/// Appends the names and the ends of the links.
 fn put_all_ends(out: &mut String, plan: &Plan, marks: &[LinkMark]) -> Result<(), Memory>
     ensures { OnOk result (string_bytes out.new ≡ string_bytes out.old ++ flat_map (ends_element plan.now) marks.now) }
 {
@@ -61,7 +61,7 @@ fn put_all_ends(out: &mut String, plan: &Plan, marks: &[LinkMark]) -> Result<(),
     Ok(())
 }
 
-/// The legend.
+/// Appends the legend.
 fn put_services(out: &mut String, plan: &Plan, marks: &[ServiceMark]) -> Result<(), Memory>
     ensures { OnOk result (string_bytes out.new ≡ string_bytes out.old
         ++ flat_map (service_element plan.now) marks.now) }
@@ -72,7 +72,7 @@ fn put_services(out: &mut String, plan: &Plan, marks: &[ServiceMark]) -> Result<
     Ok(())
 }
 
-/// The size of the picture.
+/// Appends the opening tag, with the size of the picture.
 fn put_opening(out: &mut String, size: Point) -> Result<(), Memory>
     ensures { OnOk result (string_bytes out.new ≡ string_bytes out.old ++ opening_text size) }
 {
@@ -85,7 +85,7 @@ fn put_opening(out: &mut String, size: Point) -> Result<(), Memory>
     Ok(())
 }
 
-/// How many bridges and links there are.
+/// Appends the number of bridges and links, as the picture's title.
 fn put_counts(out: &mut String, scene: &Scene) -> Result<(), Memory>
     ensures { OnOk result (string_bytes out.new ≡ string_bytes out.old ++ counts_text scene.now) }
 {
@@ -95,7 +95,7 @@ fn put_counts(out: &mut String, scene: &Scene) -> Result<(), Memory>
     Ok(())
 }
 
-/// The ground.
+/// Appends the background.
 fn put_ground(out: &mut String, size: Point) -> Result<(), Memory>
     ensures { OnOk result (string_bytes out.new ≡ string_bytes out.old ++ ground_text size) }
 {
@@ -107,7 +107,7 @@ fn put_ground(out: &mut String, size: Point) -> Result<(), Memory>
     Ok(())
 }
 
-/// The colour of what is lit.
+/// Appends the opening tag of the group of all elements, with the colour of the highlighted service.
 fn put_group(out: &mut String, chosen: Option<u8>) -> Result<(), Memory>
     ensures { OnOk result (string_bytes out.new ≡ string_bytes out.old ++ group_text chosen) }
 {
@@ -121,7 +121,7 @@ fn put_group(out: &mut String, chosen: Option<u8>) -> Result<(), Memory>
     Ok(())
 }
 
-/// What stands before all elements.
+/// Appends all that comes before the elements.
 fn put_head(out: &mut String, scene: &Scene) -> Result<(), Memory>
     ensures { OnOk result (string_bytes out.new ≡ string_bytes out.old ++ head_text scene.now) }
 {
@@ -132,7 +132,7 @@ fn put_head(out: &mut String, scene: &Scene) -> Result<(), Memory>
     put_group(out, scene.chosen)
 }
 
-/// The elements of all parts.
+/// Appends the elements of all parts.
 fn put_elements(alloc: Global, out: &mut String, plan: &Plan, scene: &Scene) -> Result<(), Memory>
     ensures { OnOk result (string_bytes out.new ≡ string_bytes out.old ++ elements_text plan.now scene.now) }
 {
@@ -143,13 +143,15 @@ fn put_elements(alloc: Global, out: &mut String, plan: &Plan, scene: &Scene) -> 
     put_services(out, plan, scene.services.as_slice())
 }
 
-/// Puts a scene of a plan behind a text, as an SVG picture that stands alone.
+/// Appends a scene of a plan as a self-contained SVG picture.
 ///
 /// Each bridge, link, customer port and service has an element with a `<title>` that names it: a bridge with its
-/// address and priority, a link with its ends and their states, a port with its service and VID. Links come first, so
-/// that no line hides a box, and their names come after the boxes.
+/// address and priority, a link with its ends and their states, a port with its service and VID. The lines of links
+/// come first and are below the boxes. The names of links come after the boxes.
 ///
-/// `Memory` is answered where memory ran out, and then a part of the picture may stand there.
+/// # Errors
+///
+/// `Memory` if an allocation failed. A part of the picture may have been appended then.
 pub fn put_svg(alloc: Global, out: &mut String, plan: &Plan, scene: &Scene) -> Result<(), Memory>
     ensures { OnOk result (string_bytes out.new ≡ string_bytes out.old ++ svg_text plan.now scene.now) }
 {

@@ -15,7 +15,7 @@ use pb_lan::{BridgePlan, CustomerPlan, Plan, ServicePlan};
 use pb_names::service_name;
 use std::alloc::Global;
 
-/// A box with a name.
+/// Appends a box with a name.
 fn put_box(out: &mut String, size: Point, name: &str) -> Result<(), Memory>
     ensures { OnOk result (string_bytes out.new ≡ string_bytes out.old ++ box_text size name.now) }
 {
@@ -28,7 +28,7 @@ fn put_box(out: &mut String, size: Point, name: &str) -> Result<(), Memory>
     Ok(())
 }
 
-/// The end of a group's beginning: how the part stands out, and where it stands.
+/// Appends the end of a group's opening tag: the class of a tone, and the position.
 fn put_stand(out: &mut String, tone: Tone, corner: Point) -> Result<(), Memory>
     ensures { OnOk result (string_bytes out.new ≡ string_bytes out.old ++ stand_text tone corner) }
 {
@@ -38,7 +38,7 @@ fn put_stand(out: &mut String, tone: Tone, corner: Point) -> Result<(), Memory>
     Ok(())
 }
 
-/// The beginning of a bridge's box.
+/// Appends the opening tag of a bridge's group.
 fn put_box_group(out: &mut String, tone: Tone, corner: Point) -> Result<(), Memory>
     ensures { OnOk result (string_bytes out.new ≡ string_bytes out.old ++ box_group tone corner) }
 {
@@ -46,7 +46,7 @@ fn put_box_group(out: &mut String, tone: Tone, corner: Point) -> Result<(), Memo
     put_stand(out, tone, corner)
 }
 
-/// The title of a bridge.
+/// Appends the title of a bridge.
 fn put_bridge_title(alloc: Global, out: &mut String, bridge: &BridgePlan) -> Result<(), Memory>
     ensures { OnOk result (string_bytes out.new ≡ string_bytes out.old ++ bridge_title bridge.now) }
 {
@@ -56,7 +56,7 @@ fn put_bridge_title(alloc: Global, out: &mut String, bridge: &BridgePlan) -> Res
     Ok(())
 }
 
-/// The box of a bridge, with its title.
+/// Appends the box of a bridge, with its title.
 fn put_known_bridge(
     alloc: Global,
     out: &mut String,
@@ -70,7 +70,7 @@ fn put_known_bridge(
     put_box(out, mark.size, bridge.name.as_str())
 }
 
-/// The box of a bridge.
+/// Appends the box of the bridge with the mark's number.
 pub(crate) fn put_bridge(
     alloc: Global,
     out: &mut String,
@@ -85,7 +85,7 @@ pub(crate) fn put_bridge(
     }
 }
 
-/// The classes of a line with a service's bar.
+/// Appends the classes of a line with a service's bar.
 fn put_bar_class(out: &mut String, kind: &str, service: u8) -> Result<(), Memory>
     ensures { OnOk result (string_bytes out.new ≡ string_bytes out.old ++ bar_class kind.now service) }
 {
@@ -95,7 +95,7 @@ fn put_bar_class(out: &mut String, kind: &str, service: u8) -> Result<(), Memory
     Ok(())
 }
 
-/// The beginning of a line with a service's bar.
+/// Appends the opening tag of a line with a service's bar.
 fn put_bar_group(
     out: &mut String,
     kind: &str,
@@ -109,7 +109,7 @@ fn put_bar_group(
     put_stand(out, tone, corner)
 }
 
-/// The bar of a line, and what stands behind it.
+/// Appends the bar of a line, and the two names after it.
 fn put_bar(out: &mut String, one: &str, other: &str) -> Result<(), Memory>
     ensures { OnOk result (string_bytes out.new ≡ string_bytes out.old ++ bar_text one.now other.now) }
 {
@@ -120,7 +120,7 @@ fn put_bar(out: &mut String, one: &str, other: &str) -> Result<(), Memory>
     Ok(())
 }
 
-/// The title of a customer port.
+/// Appends the title of a customer port.
 fn put_port_title(
     out: &mut String,
     plan: &Plan,
@@ -135,7 +135,7 @@ fn put_port_title(
     Ok(())
 }
 
-/// The line of a customer port of a service, with its title.
+/// Appends the line of a customer port of a service, with its title.
 fn put_port_of(
     out: &mut String,
     plan: &Plan,
@@ -157,7 +157,7 @@ fn put_port_of(
     put_bar(out, port.name.as_str(), service)
 }
 
-/// The line of a customer port, with its title.
+/// Appends the line of a customer port, with its title.
 fn put_known_port(
     out: &mut String,
     plan: &Plan,
@@ -175,7 +175,7 @@ fn put_known_port(
     )
 }
 
-/// The line of a customer port.
+/// Appends the line of the customer port with the mark's number.
 pub(crate) fn put_port(out: &mut String, plan: &Plan, mark: &PortMark) -> Result<(), Memory>
     ensures { OnOk result (string_bytes out.new ≡ string_bytes out.old ++ port_element plan.now mark.now) }
 {
@@ -185,7 +185,7 @@ pub(crate) fn put_port(out: &mut String, plan: &Plan, mark: &PortMark) -> Result
     }
 }
 
-/// The title of a service.
+/// Appends the title of a service.
 fn put_service_title(out: &mut String, service: &ServicePlan) -> Result<(), Memory>
     ensures { OnOk result (string_bytes out.new ≡ string_bytes out.old ++ service_title service.now) }
 {
@@ -195,7 +195,7 @@ fn put_service_title(out: &mut String, service: &ServicePlan) -> Result<(), Memo
     Ok(())
 }
 
-/// The bar of a service, its name and its VID.
+/// Appends the bar of a service, its name and its VID.
 fn put_service_bar(out: &mut String, service: &ServicePlan) -> Result<(), Memory>
     ensures { OnOk result (string_bytes out.new ≡ string_bytes out.old
         ++ bar_text service.now.name (decimal service.now.vid)) }
@@ -209,7 +209,7 @@ fn put_service_bar(out: &mut String, service: &ServicePlan) -> Result<(), Memory
     Ok(())
 }
 
-/// The line of a service, with its title.
+/// Appends the line of a service in the legend, with its title.
 fn put_known_service(
     out: &mut String,
     service: &ServicePlan,
@@ -223,7 +223,7 @@ fn put_known_service(
     put_service_bar(out, service)
 }
 
-/// The line of a service.
+/// Appends the line of the service with the mark's number.
 pub(crate) fn put_service(out: &mut String, plan: &Plan, mark: &ServiceMark) -> Result<(), Memory>
     ensures { OnOk result (string_bytes out.new ≡ string_bytes out.old ++ service_element plan.now mark.now) }
 {

@@ -13,7 +13,7 @@ use pb_frame::Memory;
 use pb_lan::{LinkPlan, Plan, PortState};
 use pb_names::state_word;
 
-/// A curve that begins `x` from the left.
+/// Appends a curve from the left coordinate `x` to a point. Both control points are `bend` from the top.
 fn put_curve(out: &mut String, x: u32, bend: u32, to: Point) -> Result<(), Memory>
     ensures { OnOk result (string_bytes out.new ≡ string_bytes out.old ++ curve_text x bend to) }
 {
@@ -22,7 +22,7 @@ fn put_curve(out: &mut String, x: u32, bend: u32, to: Point) -> Result<(), Memor
     Ok(())
 }
 
-/// The line of a link.
+/// Appends the path of a link.
 fn put_route(out: &mut String, route: &Route) -> Result<(), Memory>
     ensures { OnOk result (string_bytes out.new ≡ string_bytes out.old ++ route_text route.now) }
 {
@@ -42,7 +42,7 @@ fn put_route(out: &mut String, route: &Route) -> Result<(), Memory>
     }
 }
 
-/// The words for the class of a link's elements.
+/// Appends the opening tag of a link's group: its kind, whether it is active, and its tone.
 fn put_link_class(out: &mut String, kind: &str, facts: LinkFacts) -> Result<(), Memory>
     ensures { OnOk result (string_bytes out.new ≡ string_bytes out.old ++ link_class kind.now facts) }
 {
@@ -52,7 +52,7 @@ fn put_link_class(out: &mut String, kind: &str, facts: LinkFacts) -> Result<(), 
     Ok(())
 }
 
-/// A link's line, with its title.
+/// Appends a link's line, with its title.
 fn put_known_link(
     out: &mut String,
     plan: &Plan,
@@ -70,7 +70,7 @@ fn put_known_link(
     Ok(())
 }
 
-/// A link's line.
+/// Appends the line of the link with the mark's number.
 pub(crate) fn put_link(out: &mut String, plan: &Plan, mark: &LinkMark) -> Result<(), Memory>
     ensures { OnOk result (string_bytes out.new ≡ string_bytes out.old ++ link_element plan.now mark.now) }
 {
@@ -80,7 +80,7 @@ pub(crate) fn put_link(out: &mut String, plan: &Plan, mark: &LinkMark) -> Result
     }
 }
 
-/// How the mark of a state is drawn, from its middle on: a square with a cross, a ring, or a small dot.
+/// Returns the drawing of a state from its middle on: a square with a cross, a ring, or a small dot.
 fn mark_of(state: PortState) -> &'static str
     ensures { result.now ≡ mark_of state }
 {
@@ -91,7 +91,7 @@ fn mark_of(state: PortState) -> &'static str
     }
 }
 
-/// The number of a link's port.
+/// Appends the number of a link's port.
 fn put_number(out: &mut String, port: u8, middle: Point) -> Result<(), Memory>
     ensures { OnOk result (string_bytes out.new ≡ string_bytes out.old ++ number_text port middle) }
 {
@@ -100,7 +100,7 @@ fn put_number(out: &mut String, port: u8, middle: Point) -> Result<(), Memory>
     Ok(())
 }
 
-/// The mark of a state.
+/// Appends the mark of a state.
 fn put_mark(out: &mut String, state: PortState, middle: Point) -> Result<(), Memory>
     ensures { OnOk result (string_bytes out.new ≡ string_bytes out.old ++ mark_text state middle) }
 {
@@ -111,7 +111,7 @@ fn put_mark(out: &mut String, state: PortState, middle: Point) -> Result<(), Mem
     Ok(())
 }
 
-/// The number of a link's port, and the mark of its state.
+/// Appends the number of a link's port, and the mark of its state.
 fn put_end(
     out: &mut String,
     port: u8,
@@ -125,7 +125,7 @@ fn put_end(
     put_mark(out, state, landing)
 }
 
-/// Both ends of a link.
+/// Appends both ends of a link.
 fn put_both_ends(out: &mut String, link: &LinkPlan, mark: &LinkMark) -> Result<(), Memory>
     ensures { OnOk result (string_bytes out.new ≡ string_bytes out.old ++ both_ends link.now mark.now) }
 {
@@ -134,7 +134,7 @@ fn put_both_ends(out: &mut String, link: &LinkPlan, mark: &LinkMark) -> Result<(
     put_end(out, link.b.port, facts.b, route.b_port, route.b)
 }
 
-/// A plate that hides the line behind a link's name.
+/// Appends a plate that hides the line under a link's name.
 fn put_plate(out: &mut String, route: &Route) -> Result<(), Memory>
     ensures { OnOk result (string_bytes out.new ≡ string_bytes out.old ++ plate_text route.now) }
 {
@@ -148,7 +148,7 @@ fn put_plate(out: &mut String, route: &Route) -> Result<(), Memory>
     Ok(())
 }
 
-/// The name of a link on its plate, and whether the link loses frames.
+/// Appends the name of a link on its plate, and whether the link loses frames.
 fn put_name(out: &mut String, link: &LinkPlan) -> Result<(), Memory>
     ensures { OnOk result (string_bytes out.new ≡ string_bytes out.old ++ name_text link.now) }
 {
@@ -161,7 +161,7 @@ fn put_name(out: &mut String, link: &LinkPlan) -> Result<(), Memory>
     Ok(())
 }
 
-/// The name of a link, on its plate.
+/// Appends the name of a link, on its plate.
 fn put_label(out: &mut String, link: &LinkPlan, route: &Route) -> Result<(), Memory>
     ensures { OnOk result (string_bytes out.new ≡ string_bytes out.old ++ label_text link.now route.now) }
 {
@@ -169,7 +169,7 @@ fn put_label(out: &mut String, link: &LinkPlan, route: &Route) -> Result<(), Mem
     put_name(out, link)
 }
 
-/// The name of a link, and its ends.
+/// Appends the ends of a link, and its name.
 fn put_known_ends(out: &mut String, link: &LinkPlan, mark: &LinkMark) -> Result<(), Memory>
     ensures { OnOk result (string_bytes out.new ≡ string_bytes out.old ++ known_ends link.now mark.now) }
 {
@@ -180,7 +180,7 @@ fn put_known_ends(out: &mut String, link: &LinkPlan, mark: &LinkMark) -> Result<
     Ok(())
 }
 
-/// The name of a link, and its ends.
+/// Appends the ends and the name of the link with the mark's number.
 pub(crate) fn put_ends(out: &mut String, plan: &Plan, mark: &LinkMark) -> Result<(), Memory>
     ensures { OnOk result (string_bytes out.new ≡ string_bytes out.old ++ ends_element plan.now mark.now) }
 {

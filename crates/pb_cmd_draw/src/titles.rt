@@ -1,4 +1,4 @@
-//! What is told of the parts of a network, where the pointer rests on them.
+//! The titles of the parts of a network, which a viewer shows under the pointer.
 
 ghost use Rattle.std.specs.Prelude.{◌≡◌, ◌++◌, string_bytes, OnOk};
 ghost use Rattle.pb_cmd_draw.specs.Titles.{bridge_words, end_words, losses_text, link_words, port_words};
@@ -11,7 +11,7 @@ use pb_lan::{BridgePlan, CustomerPlan, End, LinkPlan, Plan, PortState};
 use pb_names::{bridge_name, state_word};
 use std::alloc::Global;
 
-/// What is told of a bridge: its name, its address and its priority.
+/// Appends the title of a bridge: its name, its address and its priority.
 pub(crate) fn put_bridge_words(
     alloc: Global,
     out: &mut String,
@@ -26,7 +26,7 @@ pub(crate) fn put_bridge_words(
     Ok(())
 }
 
-/// What is said of a link's losses.
+/// Appends how many frames a link loses in each direction, if it loses any.
 fn put_losses(out: &mut String, plan: &Plan, link: &LinkPlan) -> Result<(), Memory>
     ensures { OnOk result (string_bytes out.new ≡ string_bytes out.old ++ losses_text plan.now link.now) }
 {
@@ -42,7 +42,7 @@ fn put_losses(out: &mut String, plan: &Plan, link: &LinkPlan) -> Result<(), Memo
     Ok(())
 }
 
-/// An end of a link, in its title.
+/// Appends an end of a link: its bridge, its port and the port's state.
 fn put_end_words(out: &mut String, plan: &Plan, end: &End, state: PortState) -> Result<(), Memory>
     ensures { OnOk result (string_bytes out.new ≡ string_bytes out.old ++ end_words plan.now end.now state) }
 {
@@ -53,7 +53,7 @@ fn put_end_words(out: &mut String, plan: &Plan, end: &End, state: PortState) -> 
     Ok(())
 }
 
-/// What is told of a link: its name, its ends with their states, and what it loses.
+/// Appends the title of a link: its name, its ends with their states, and its losses.
 pub(crate) fn put_link_words(
     out: &mut String,
     plan: &Plan,
@@ -69,7 +69,7 @@ pub(crate) fn put_link_words(
     put_losses(out, plan, link)
 }
 
-/// What is told of a customer port: its name, its place, its service and the VID.
+/// Appends the title of a customer port: its name, its bridge and local port, its service and the VID.
 pub(crate) fn put_port_words(
     out: &mut String,
     plan: &Plan,

@@ -1,4 +1,4 @@
--- Events that set ports down.
+-- Events that disable ports.
 use Rattle.std.proofs.Common.{◌≡◌, inl, inr, ℕ, suc, ◌+◌, Bool, true, false, cond, Some, Ok, List, [], ◌∷◌, slice_get}
 use Rattle.std.proofs.Common.{take, refl, sym, ap, ◌∙◌}
 use Rattle.std.specs.List.{AllByRecursion}
@@ -22,7 +22,7 @@ run-plan old new [] e = ap (λ v. v.plan) e
 run-plan old new (event ∷ events) (between, did, answer, rest) = run-plan between new events rest
     ∙ answer-plan old between event (Ok did) answer
 
--- so the events name something
+-- both events of a link name a port of the plan
 named_choice : (plan : Plan) (link : LinkPlan) (b : Bool) → (names_something plan (set_down link.a) ≡ true)
     × (names_something plan (set_down link.b) ≡ true)
     → AllByRecursion (λ e. names_something plan e ≡ true) (cond b (set_down link.a ∷ set_down link.b ∷ []) [])
@@ -51,7 +51,7 @@ downs_named plan sound failure =
     ))
     plan.links (All-placed plan.links))
 
--- none of them is refused for want of a port
+-- none of the events is refused because its port does not exist, so take_down meets no NoSuch
 pub none_lacks : (plan : Plan) (failure : Failure) (old new : NetView) (count : ℕ) → IsSound plan → old.plan ≡ plan
     → HasStopped old (downs plan failure) count NoSuch new → ⊥
 none_lacks plan failure old new count sound e s =

@@ -1,4 +1,4 @@
--- Ports that can reach each other, by their numbers.
+-- Ports that reach each other, by the number of their group.
 use Rattle.std.proofs.Common.{◌≡◌, ◌≤◌, ◌↔◌, inl, inr, ℕ, zero, suc, ◌+◌, ◌<◌, Bool, true, false, cond, Option, Some}
 use Rattle.std.proofs.Common.{List, [], ◌∷◌, length, map, get_or, refl, sym, ap, subst, ◌∙◌, arith, nat_eq, slice_get}
 use Rattle.std.proofs.Common.{unwrap_or}
@@ -20,7 +20,7 @@ use Rattle.pb_cmd_survive.specs.Reach.{CanReach, mark_at, TellsJoined}
 use Rattle.pb_cmd_survive.specs.declared.failure.Failure.{Failure}
 use Rattle.pb_cmd_survive.specs.declared.sites.Site.{Site}
 
--- numbers from one on, up to so many
+-- the numbers are at least low and less than high
 abbrev AreWithin : ℕ → ℕ → List ℕ → Type 0
 AreWithin low high ports = AllByRecursion (λ m. (low ≤ m) × (m < high)) ports
 
@@ -35,7 +35,7 @@ within_choice : (b : Bool) (n count : ℕ) (ports : List ℕ) → AreWithin n (n
 within_choice true n count ports a = ((omega arith, omega arith), a)
 within_choice false n count ports a = a
 
--- the ports of a service stand in the plan, and rise
+-- the ports of a service are numbers of the plan's customer ports
 ports_within : (service n : ℕ) (cs : List CustomerPlan) → AreWithin n (n + length cs) (ports_from service n cs)
 ports_within service n [] = tt
 ports_within service n (c ∷ cs) =
@@ -57,7 +57,7 @@ ports_rise service n (c ∷ cs) =
     rise_choice (nat_eq c.service service) n (length cs) (ports_from service (n + 1) cs)
     (ports_within service (n + 1) cs) (ports_rise service (n + 1) cs)
 
--- each has its entry in the plan
+-- each of them has its entry in the plan
 port_entry : (plan : Plan) (service k p : ℕ) → slice_get (ports_of plan service) k ≡ Some p → (c : CustomerPlan)
     × (numbered plan.customers p ≡ Some c)
 port_entry plan service k p e =
@@ -85,7 +85,7 @@ lead-least color port (x ∷ xs) rises (suc k) e =
     least_choice (nat_eq (color x) (color port)) x port (first (λ q. nat_eq (color q) (color port)) xs)
     (omega (arith, less)) (lead-least color port xs rises.1 k e)
 
--- it is one of them, and has that number
+-- lead_of returns one of the ports, with the same number
 record IsLead (color : ℕ → ℕ) (ports : List ℕ) (port : ℕ) : Type 0 where
   place : ℕ
   there : slice_get ports place ≡ Some (lead_of color ports port)
@@ -103,14 +103,14 @@ lead-there color ports k port e =
       same = ap color is ∙ (let h = at.2 in grind (arith, nat_tests, h));
     }
 
--- what stands in a list is contained in it
+-- an element at an index is contained in the list
 contained : {X : Type 0} (xs : List X) (k : ℕ) (x : X) → slice_get xs k ≡ Some x → Contains xs x
 contained [] k x e = cc
 contained (y ∷ ys) zero x e = (0, omega arith, Some-injective e)
 contained (y ∷ ys) (suc k) x e = let there =
     contained ys k x e in (suc there.0, (let less = there.1 in omega (arith, less)), there.2)
 
--- what a list of values contains is the value of something
+-- each site that the list contains is that of a port
 record IsMapped (f : ℕ → Site) (ports : List ℕ) (s : Site) : Type 0 where
   place : ℕ
   port : ℕ
@@ -127,7 +127,7 @@ member-map f ports s (k, less, is) =
       is = sym is ∙ get_or-map f ports k 0 s within;
     }
 
--- marks tell of the bridges of a sound plan, and are few
+-- marks of a sound plan's bridges: they show which bridges are joined, and are below 32
 pub record AreMarks (plan : Plan) (shape : Shape) (vid : ℕ) (marks : List ℕ) : Type 0 where
   pub sound : IsSound plan
   pub joined : TellsJoined plan shape vid marks
@@ -139,7 +139,7 @@ customer_number plan sound p c e =
     let s = numbered-All (IsSoundCustomer plan) plan.customers p c e sound.customers in
     (s.bridge.0, let up = s.bridge.1 in let most = sound.limits.bridges in omega (arith, up, most))
 
--- ports with one number can reach each other
+-- ports with one number reach each other
 reach_by_color : (plan : Plan) (shape : Shape) (failure : Failure) (vid : ℕ) (marks : List ℕ)
     → AreMarks plan shape vid marks
     → (p q : ℕ) (c d : CustomerPlan) → numbered plan.customers p ≡ Some c → numbered plan.customers q ≡ Some d
@@ -165,7 +165,7 @@ reach_by_color plan shape failure vid marks m p q c d e f h =
           (customer_number plan m.sound q d f)).0 same;
     }
 
--- ports that can reach each other have one number
+-- ports that reach each other have one number
 color_by_reach : (plan : Plan) (shape : Shape) (failure : Failure) (vid : ℕ) (marks : List ℕ)
     → AreMarks plan shape vid marks
     → (p q : ℕ) → CanReach plan shape failure vid p q → color_of plan marks failure p ≡ color_of plan marks failure q
@@ -184,7 +184,7 @@ map-back : (f : ℕ → Site) (ports : List ℕ) → ((p : ℕ) → (f p).port �
 map-back f [] same = refl
 map-back f (p ∷ ps) same = ap (λ z. z ∷ map (λ s. s.port) (map f ps)) (same p) ∙ ap (λ zs. p ∷ zs) (map-back f ps same)
 
--- two sites have one group just where their ports have one number
+-- two sites have one group if and only if their ports have one number
 group_tells : (plan : Plan) (shape : Shape) (failure : Failure) (service vid : ℕ) (marks : List ℕ)
     → AreMarks plan shape vid marks
     → (j k p q : ℕ) → slice_get (ports_of plan service) j ≡ Some p → slice_get (ports_of plan service) k ≡ Some q
@@ -208,7 +208,7 @@ group_tells plan shape failure service vid marks m j k p q e f = (to, from)
     from r = ap (λ z. unwrap_or (first (λ x. nat_eq (color_of plan marks failure x) z) (ports_of plan service)) 0)
         (color_by_reach plan shape failure vid marks m p q r)
 
--- the ports with the first of their number are the groups
+-- the sites that sites_of makes are the groups of the service, for the contract of groups
 pub groups_are : (plan : Plan) (shape : Shape) (failure : Failure) (service vid : ℕ) (marks : List ℕ)
     → AreMarks plan shape vid marks
     → AreGroups plan shape failure service vid (map (site_of (color_of plan marks failure) (ports_of plan service))

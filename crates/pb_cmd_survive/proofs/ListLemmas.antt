@@ -1,10 +1,10 @@
--- Lists in step.
+-- Two lists, element by element.
 use Rattle.std.proofs.Common.{◌≡◌, ◌≤◌, ℕ, zero, suc, ◌+◌, ◌<◌, List, [], ◌∷◌, ◌++◌, Result, Ok, Err, IfOk}
 use Rattle.std.proofs.Common.{MatchResult, map, length, take, drop, get_or, flat_map, min, refl, sym, ap, ◌∙◌, subst}
 use Rattle.std.proofs.Common.{arith, append_assoc, append-nil}
 use Rattle.std.specs.List.{AllZip, Contains, zip}
 
--- one more at the end of both
+-- one more element at the end of both lists
 pub zip_one_more : {A B : Type 0} (R : A → B → Type 0) (xs : List A) (i : ℕ) (d : A) (ys : List B) (y : B)
     → i < length xs → AllZip R (take i xs) ys → R (get_or xs i d) y
     → AllZip R (take (i + 1) xs) (ys ++ y ∷ [])
@@ -17,15 +17,15 @@ zip_one_more R (x ∷ xs) (suc i) d (z ∷ zs) y h a r =
     subst (λ n. AllZip R (take n (x ∷ xs)) ((z ∷ zs) ++ y ∷ [])) next
     (a.0, zip_one_more R xs i d zs y (omega (arith, h)) a.1 r)
 
--- a text in five parts, from the left or from the right
+-- a text of five parts, bracketed from the left or from the right
 pub regroup : (a b c d e : List ℕ) → (((a ++ b) ++ c) ++ d) ++ e ≡ a ++ (b ++ (c ++ (d ++ e)))
 regroup a b c d e = simp append_assoc
 
--- in six parts
+-- the same for six parts
 pub regroup_six : (a b c d e f : List ℕ) → ((((a ++ b) ++ c) ++ d) ++ e) ++ f ≡ a ++ (b ++ (c ++ (d ++ (e ++ f))))
 regroup_six a b c d e f = simp append_assoc
 
--- two lists in step, from one pair on
+-- two lists zipped from an index on: the pair at the index, then the later ones
 pub zip_there : {A B : Type 0} (xs : List A) (ys : List B) (i : ℕ) (d : A) (e : B) → i < length xs → i < length ys
     → zip (drop i xs) (drop i ys) ≡ (get_or xs i d, get_or ys i e) ∷ zip (drop (i + 1) xs) (drop (i + 1) ys)
 zip_there [] ys i d e h g = absurd (omega (arith, h))
@@ -36,7 +36,7 @@ zip_there (x ∷ xs) (y ∷ ys) (suc i) d e h g =
     zip_there xs ys i d e (omega (arith, h)) (omega (arith, g))
     ∙ ap (λ n. (get_or xs i d, get_or ys i e) ∷ zip (drop n (x ∷ xs)) (drop n (y ∷ ys))) next
 
--- and from the end of one of them on
+-- nothing is zipped after the end of one of them
 zip-nil : {A B : Type 0} (xs : List A) (ys : List B) → ys ≡ [] → zip xs ys ≡ []
 zip-nil [] ys e = refl
 zip-nil (x ∷ xs) [] e = refl
@@ -53,7 +53,7 @@ zip_past (x ∷ xs) [] (suc i) h = zip-nil (drop i xs) [] refl
 zip_past (x ∷ xs) (y ∷ ys) zero h = absurd (omega (arith, h))
 zip_past (x ∷ xs) (y ∷ ys) (suc i) h = zip_past xs ys i (omega (arith, h))
 
--- one more text, and the rest behind it
+-- one more text, and the texts of the later elements after it
 pub text_more : {X : Type 0} (f : X → List ℕ) (start before now : List ℕ) (x : X) (these later all : List X)
     → these ≡ x ∷ later → now ≡ before ++ f x
     → before ++ flat_map f these ≡ start ++ flat_map f all → now ++ flat_map f later ≡ start ++ flat_map f all
@@ -61,21 +61,21 @@ text_more f start before now x these later all e g h =
     ap (λ z. z ++ flat_map f later) g ∙ append_assoc before (f x) (flat_map f later)
     ∙ ap (λ z. before ++ flat_map f z) (sym e) ∙ h
 
--- no text is left
+-- no text remains
 pub text_end : {X : Type 0} (f : X → List ℕ) (start now : List ℕ) (these all : List X) → these ≡ []
     → now ++ flat_map f these ≡ start ++ flat_map f all
     → now ≡ start ++ flat_map f all
 text_end f start now these all e h = sym (append-nil now) ∙ ap (λ z. now ++ flat_map f z) (sym e) ∙ h
 
--- a text of five parts behind another, as it is written and as it is read
+-- a text of five parts after another, as it is written and as it is defined
 pub rejoin : (old a n b l e : List ℕ) → ((old ++ (a ++ (n ++ b))) ++ l) ++ e ≡ old ++ ((((a ++ n) ++ b) ++ l) ++ e)
 rejoin old a n b l e = simp append_assoc
 
--- four texts behind another, one after the other
+-- four texts after another, as they are written and as they are defined
 pub rejoin_four : (old a b c d : List ℕ) → (((old ++ a) ++ b) ++ c) ++ d ≡ old ++ (((a ++ b) ++ c) ++ d)
 rejoin_four old a b c d = simp append_assoc
 
--- answers that are all there, in step with what was asked
+-- results that are all Ok have the relation with their arguments
 zip_oks : {A B : Type 0} (E : Type 0) (R : A → B → Type 0) (xs : List A) (ys : List B)
     → AllZip (λ x (r : Result B E). IfOk r (R x)) xs (map Ok ys)
     → AllZip R xs ys
@@ -84,7 +84,7 @@ zip_oks E R [] (y ∷ ys) a = absurd a
 zip_oks E R (x ∷ xs) [] a = absurd a
 zip_oks E R (x ∷ xs) (y ∷ ys) a = (a.0, zip_oks E R xs ys a.1)
 
--- where a list is gathered of answers that are each right where they are there, each of the list is right
+-- if each Ok of a list of results has the relation, so has each element of the collected list
 pub gathered : {A B V E : Type 0} (R : A → B → Type 0) (items : V → List B) (xs : List A) (rs : List (Result B E))
     (r : Result V E)
     → AllZip (λ x b. IfOk b (R x)) xs rs → MatchResult r (λ v. (ys : List B) × (rs ≡ map Ok ys) × (items v ≡ ys))

@@ -1,4 +1,4 @@
--- Walks over active links, and marks that tell of them.
+-- Walks over active links, and marks for the bridges that they join.
 use Rattle.std.proofs.Common.{◌≡◌, ◌⊎◌, inl, inr, ℕ, suc, ◌+◌, ◌-◌, ◌<◌, ◌≤◌, Bool, true, false, cond, Some}
 use Rattle.std.proofs.Common.{List, [], ◌∷◌, ◌++◌, length, map, get_or, refl, sym, ◌∙◌, ap, subst, arith, nat_eq}
 use Rattle.std.proofs.Common.{slice_get, zero-add}
@@ -53,7 +53,7 @@ joined_by plan shape vid k link e active = (
   ),
 )
 
--- each of the first so many links that are active has one mark at both its ends
+-- each active link among the first count has one mark at both its ends
 pub record CloseFirst (plan : Plan) (shape : Shape) (vid count : ℕ) (marks : List ℕ) : Type 0 where
   pub close : (k : ℕ) (link : LinkPlan) → k < count → slice_get plan.links k ≡ Some link
       → is_active plan shape vid link ≡ true
@@ -81,14 +81,14 @@ marked_walk plan shape vid marks all a (k ∷ ks) b (near, far, c, n, w) =
     across (inl h) = ap (λ e. mark_at marks e.bridge) (sym h.0) ∙ both ∙ ap (λ e. mark_at marks e.bridge) h.1
     across (inr h) = ap (λ e. mark_at marks e.bridge) (sym h.0) ∙ sym both ∙ ap (λ e. mark_at marks e.bridge) h.1
 
--- so marks by which all active links are closed, and that join, tell of all bridges
+-- if all active links have one mark at both ends, and bridges with one mark are joined, the marks are right
 pub tells_joined : (plan : Plan) (shape : Shape) (vid : ℕ) (marks : List ℕ)
     → CloseFirst plan shape vid (length plan.links) marks → MarkJoined plan shape vid marks
     → TellsJoined plan shape vid marks
 tells_joined plan shape vid marks all sound a b i j =
     (sound.joins a b i j, λ joined. marked_walk plan shape vid marks all a joined.0 b joined.1)
 
--- a mark after another was replaced by a third
+-- a mark after one mark is replaced by another
 abbrev pub replaced : ℕ → ℕ → ℕ → ℕ
 replaced gone kept mark = cond (nat_eq mark gone) kept mark
 
@@ -99,16 +99,16 @@ mark-replaced : (marks : List ℕ) (gone kept a : ℕ) → length marks ≡ 32 �
     → mark_at (replaced_in marks gone kept) a ≡ replaced gone kept (mark_at marks a)
 mark-replaced marks gone kept a e i = get_or-map (replaced gone kept) marks (a - 1) 0 0 (omega (arith, e, i.0, i.1))
 
--- two marks that are one now were one before, or were the two
+-- two marks that are equal after the replacement were equal before it, or were the two
 split : (gone kept m n : ℕ) → replaced gone kept m ≡ replaced gone kept n
     → (m ≡ n) ⊎ (((m ≡ gone) × (n ≡ kept)) ⊎ ((m ≡ kept) × (n ≡ gone)))
 split gone kept m n e = grind (arith, nat_tests)
 
--- the mark that is kept, and the one that is gone
+-- the mark that is kept and the one that is replaced are one afterwards
 kept_twice : (gone kept : ℕ) → replaced gone kept kept ≡ replaced gone kept gone
 kept_twice gone kept = grind (arith, nat_tests)
 
--- what two marks were, they both are now
+-- two equal marks stay equal
 same_replaced : (marks : List ℕ) (gone kept a b : ℕ) → length marks ≡ 32 → IsNumber a 32 → IsNumber b 32
     → mark_at marks a ≡ mark_at marks b
     → mark_at (replaced_in marks gone kept) a ≡ mark_at (replaced_in marks gone kept) b
@@ -139,7 +139,7 @@ joins_after plan shape vid marks x y e i j xy old = record {
         joined_through plan shape vid a x b (old.joins a x k i h.0)
         (joined_through plan shape vid x y b xy (old.joins y b j l (sym h.1)))
 
--- the ends of a sound plan's links are at bridges of few
+-- the ends of a sound plan's links are at bridges 1 to 32
 pub end_number : (plan : Plan) → IsSound plan → (k : ℕ) (link : LinkPlan) → slice_get plan.links k ≡ Some link
     → IsNumber link.a.bridge 32 × IsNumber link.b.bridge 32
 end_number plan sound k link e = (
@@ -151,7 +151,7 @@ end_number plan sound k link e = (
     few : (z : End) → IsSoundEnd plan z → IsNumber z.bridge 32
     few z s = (s.bridge.0, let up = s.bridge.1 in let most = sound.limits.bridges in omega (arith, up, most))
 
--- what was closed stays closed, and the next link is closed when the marks at its ends are made one
+-- links with one mark at both ends keep that, and the next one has it after join
 pub closes_after : (plan : Plan) (shape : Shape) (vid i : ℕ) (marks : List ℕ) (link : LinkPlan) → IsSound plan
     → length marks ≡ 32 → slice_get plan.links i ≡ Some link
     → CloseFirst plan shape vid i marks
@@ -179,7 +179,7 @@ closes_after plan shape vid i marks link sound e here old =
         ∙ kept_twice (mark_at marks link.b.bridge) (mark_at marks link.a.bridge)
         ∙ sym (mark-replaced marks (mark_at marks link.b.bridge) (mark_at marks link.a.bridge) link.b.bridge e few.1))
 
--- a link that is not active needs no closing
+-- a link that is not active needs no join
 pub closes_past : (plan : Plan) (shape : Shape) (vid i : ℕ) (marks : List ℕ) (link : LinkPlan)
     → slice_get plan.links i ≡ Some link → is_active plan shape vid link ≡ false
     → CloseFirst plan shape vid i marks → CloseFirst plan shape vid (i + 1) marks
@@ -206,7 +206,7 @@ own_marks_join plan shape vid =
     same : (a b : ℕ) → IsNumber a 32 → IsNumber b 32 → a - 1 ≡ b - 1 → a ≡ b
     same a b i j h = let low = i.0 in let low' = j.0 in omega (arith, low, low', h)
 
--- all marks are few
+-- all marks at the start are below 32
 pub own_marks_below : (a : ℕ) → mark_at (range_with_len 0 32) a < 32
 own_marks_below a = by (cases_lt (a - 1) 32)
   where
@@ -215,7 +215,7 @@ own_marks_below a = by (cases_lt (a - 1) 32)
     by (inr h) = let e = get_or_past (range_with_len 0 32) (a - 1) 0 (omega (arith, h, length-range_with_len 0 32))
         in omega (arith, e)
 
--- and they stay so
+-- the marks stay below 32 after join
 pub below_after : (marks : List ℕ) (gone x : ℕ) → ((a : ℕ) → mark_at marks a < 32) → (a : ℕ)
     → mark_at (replaced_in marks gone (mark_at marks x)) a < 32
 below_after marks gone x few a = by (cases_lt (a - 1) (length marks))
@@ -234,7 +234,7 @@ below_after marks gone x few a = by (cases_lt (a - 1) (length marks))
         (omega (arith, h, length-map marks (replaced gone (mark_at marks x)))) in
         omega (arith, e)
 
--- the link of an iteration stands in the plan
+-- the link of an iteration is in the plan
 pub link_there : (links items : List LinkPlan) (i : ℕ) (link : LinkPlan) → items ≡ links → i < length items
     → link ≡ get_or items i link → slice_get links i ≡ Some link
 link_there links items i link e h is =

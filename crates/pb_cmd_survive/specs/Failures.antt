@@ -1,4 +1,4 @@
--- What may fail, and what goes down then.
+-- The failures, and the ports that they disable.
 use Rattle.std.specs.Prelude.{ℕ, ◌+◌, Bool, false, List, [], ◌∷◌, ◌++◌, map, ◌==◌, ◌||◌, if◌then◌else◌}
 use Rattle.pb_lan.specs.Numbering.{numbers_from}
 use Rattle.pb_lan.specs.declared.event.Event.{Event}
@@ -15,39 +15,40 @@ abbrev pub pairs_of : List ℕ → List Failure
 pairs_of [] = []
 pairs_of (number ∷ later) = map (Pair number) later ++ pairs_of later
 
--- each link, then each bridge and each two links where they are asked for
+-- each link, then each bridge and each two links if those kinds are requested
 abbrev pub all_failures : Plan → Kinds → List Failure
 all_failures plan kinds =
     map Link (numbers_from 1 plan.links)
     ++ (if kinds.bridges then map Bridge (numbers_from 1 plan.bridges) else [])
     ++ (if kinds.pairs then pairs_of (numbers_from 1 plan.links) else [])
 
--- the failure takes the link of this number down
+-- the failure disables the link with this number
 abbrev pub is_hit : Failure → ℕ → LinkPlan → Bool
 is_hit Nothing number link = false
 is_hit (Link failed) number link = number == failed
 is_hit (Pair first second) number link = number == first || number == second
 is_hit (Bridge failed) number link = link.a.bridge == failed || link.b.bridge == failed
 
--- the failure takes the bridge of this number down
+-- the failure is that of the bridge with this number
 abbrev pub is_out : Failure → ℕ → Bool
 is_out (Bridge failed) bridge = bridge == failed
 is_out Nothing bridge = false
 is_out (Link failed) bridge = false
 is_out (Pair first second) bridge = false
 
+-- the event that disables the port at an end of a link
 abbrev pub set_down : End → Event
 set_down e = Admin e.bridge e.port false
 
--- both ends of a link that the failure takes down are set down
+-- the events that disable both ends of a link, if it fails
 abbrev pub downs_of : Failure → ℕ → LinkPlan → List Event
 downs_of failure number link = if is_hit failure number link then set_down link.a ∷ set_down link.b ∷ [] else []
 
--- of the links from a number on
+-- those of the links from a number on
 abbrev pub downs_from : Failure → ℕ → List LinkPlan → List Event
 downs_from failure number [] = []
 downs_from failure number (link ∷ links) = downs_of failure number link ++ downs_from failure (number + 1) links
 
--- of all links of the plan
+-- those of all links of the plan
 abbrev pub downs : Plan → Failure → List Event
 downs plan failure = downs_from failure 1 plan.links

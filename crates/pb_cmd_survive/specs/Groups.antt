@@ -1,4 +1,4 @@
--- The customer ports of a service, in groups that can reach each other.
+-- The customer ports of a service, in groups that reach each other.
 use Rattle.std.specs.Prelude.{◌≡◌, ◌≤◌, ◌↔◌, ℕ, ◌+◌, List, [], ◌∷◌, Some, None, map, unwrap_or, ◌==◌, if◌then◌else◌, Contains}
 use Rattle.std.specs.declared.option.Option.{Option}
 use Rattle.pb_frame.specs.Lists.{first}
@@ -11,35 +11,37 @@ use Rattle.pb_cmd_survive.specs.Reach.{CanReach, mark_at}
 use Rattle.pb_cmd_survive.specs.declared.failure.Failure.{Failure}
 use Rattle.pb_cmd_survive.specs.declared.sites.Site.{Site}
 
--- the numbers of the customer ports of a service, of those from a number on
+-- the numbers of the customer ports of a service, among those from a number on
 abbrev pub ports_from : ℕ → ℕ → List CustomerPlan → List ℕ
 ports_from service number [] = []
 ports_from service number (c ∷ cs) =
     if c.service == service then number ∷ ports_from service (number + 1) cs else ports_from service (number + 1) cs
 
--- of all in the plan
+-- the numbers of all customer ports of a service
 abbrev pub ports_of : Plan → ℕ → List ℕ
 ports_of plan service = ports_from service 1 plan.customers
 
--- the customer ports of the service, in the plan's order; two have one group just where they can reach each
--- other, and a group goes by the number of its first port
+-- the customer ports of the service, in the plan's order; two have one group if and only if they reach each other, and
+-- the number of a group is that of its first port
 pub record AreGroups (plan : Plan) (shape : Shape) (failure : Failure) (service vid : ℕ) (sites : List Site) : Type 0 where
   pub ports : map (λ s. s.port) sites ≡ ports_of plan service
   pub together : (s t : Site) → Contains sites s → Contains sites t → (s.group ≡ t.group) ↔ CanReach plan shape failure vid s.port t.port
   pub named : (s : Site) → Contains sites s → Contains (ports_of plan service) s.group
   pub least : (s : Site) → Contains sites s → s.group ≤ s.port
 
--- a number for what a customer port can reach: that of its bridge's mark, or one of its own where the bridge failed
+-- the number of a customer port for its group: its bridge's mark, or one of its own if the bridge failed
 abbrev pub color_by : List ℕ → Failure → ℕ → Option CustomerPlan → ℕ
 color_by marks failure port None = 0
 color_by marks failure port (Some c) = if is_out failure c.bridge then port + 32 else mark_at marks c.bridge
 
+-- that number by the port's number in the plan
 abbrev pub color_of : Plan → List ℕ → Failure → ℕ → ℕ
 color_of plan marks failure port = color_by marks failure port (numbered plan.customers port)
 
--- the first of the ports that has the number of this one
+-- the first of the ports that has the same number for its group
 abbrev pub lead_of : (ℕ → ℕ) → List ℕ → ℕ → ℕ
 lead_of color ports port = unwrap_or (first (λ q. color q == color port) ports) 0
 
+-- a port with its group
 abbrev pub site_of : (ℕ → ℕ) → List ℕ → ℕ → Site
 site_of color ports port = record { port = port; group = lead_of color ports port }

@@ -1,4 +1,4 @@
--- What comes of a failure.
+-- The impact of a failure.
 use Rattle.std.specs.Prelude.{◌≡◌, ℕ, List}
 use Rattle.std.specs.List.{AllZip}
 use Rattle.pb_converge.specs.Falls.{fresh}
@@ -15,30 +15,31 @@ use Rattle.pb_cmd_survive.specs.declared.failure.Failure.{Failure}
 use Rattle.pb_cmd_survive.specs.declared.failure.Failure.TheVariants.{Nothing, Link, Pair, Bridge}
 use Rattle.pb_cmd_survive.specs.declared.impact.Impact.{Impact}
 
--- with nothing down the bridges settle
+-- with nothing down the bridges converge
 abbrev pub IsCalm : Plan → ℕ → ℕ → Rest → NetView → Type 0
 IsCalm plan most events rest new = HasRested most events rest (fresh plan) new
 
--- both ends of each link that a failure takes down are set down, and the bridges settle again
+-- both ends of each link that fails are disabled, and the bridges converge again
 pub record HasFailedFrom (plan : Plan) (most events : ℕ) (failure : Failure) (calm : NetView) (rest : Rest) (new : NetView) : Type 0 where
   pub down : NetView
   pub set_down : HaveRun calm (downs plan failure) down
   pub settles : HasRested most events rest down new
 
--- under a failure they settle before it and after it
+-- the bridges converge before the failure and after it
 pub record IsFailed (plan : Plan) (most events : ℕ) (failure : Failure) (rest : Rest) (new : NetView) : Type 0 where
   pub first : Rest
   pub calm : NetView
   pub is_calm : IsCalm plan most events first calm
   pub fails : HasFailedFrom plan most events failure calm rest new
 
+-- the network was driven into the failure, or only to convergence if nothing fails
 abbrev pub IsDriven : Plan → ℕ → ℕ → Failure → Rest → NetView → Type 0
 IsDriven plan most events Nothing rest new = IsCalm plan most events rest new
 IsDriven plan most events (Link number) rest new = IsFailed plan most events (Link number) rest new
 IsDriven plan most events (Pair first second) rest new = IsFailed plan most events (Pair first second) rest new
 IsDriven plan most events (Bridge number) rest new = IsFailed plan most events (Bridge number) rest new
 
--- the impact of a failure is that of the last shape of a lawful record of the plan's network, which was driven so
+-- the impact of a failure is that of the last shape of a lawful record of the plan's network, which was driven into it
 pub record IsImpact (plan : Plan) (services : List ℕ) (most events : ℕ) (failure : Failure) (impact : Impact) : Type 0 where
   pub failed : impact.failure ≡ failure
   pub last : NetView

@@ -1,4 +1,4 @@
--- Which bridges and customer ports can reach each other.
+-- Which bridges and customer ports reach each other.
 use Rattle.std.specs.Prelude.{◌≡◌, ◌⊎◌, ◌↔◌, ℕ, ◌-◌, false, List, Some, slice_index}
 use Rattle.pb_lan.specs.Forests.{AreJoined}
 use Rattle.pb_lan.specs.Numbering.{numbered}
@@ -9,7 +9,7 @@ use Rattle.pb_lan.specs.declared.shape.Shape.{Shape}
 use Rattle.pb_cmd_survive.specs.Failures.{is_out}
 use Rattle.pb_cmd_survive.specs.declared.failure.Failure.{Failure}
 
--- the customer ports of these numbers stand at bridges that have not failed, and active links join these
+-- the customer ports with these numbers are at bridges that have not failed, and active links join the bridges
 pub record AreLinked (plan : Plan) (shape : Shape) (failure : Failure) (vid p q : ℕ) : Type 0 where
   pub here : CustomerPlan
   pub there : CustomerPlan
@@ -27,7 +27,7 @@ CanReach plan shape failure vid p q = (p ≡ q) ⊎ AreLinked plan shape failure
 abbrev pub mark_at : List ℕ → ℕ → ℕ
 mark_at marks bridge = slice_index marks (bridge - 1)
 
--- two bridges have one mark just where active links join them
+-- two bridges have one mark if and only if active links join them
 abbrev pub TellsJoined : Plan → Shape → ℕ → List ℕ → Type 0
 TellsJoined plan shape vid marks =
     (a b : ℕ) → IsNumber a 32 → IsNumber b 32 → (mark_at marks a ≡ mark_at marks b) ↔ AreJoined plan shape vid a b

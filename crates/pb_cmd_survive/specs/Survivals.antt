@@ -1,4 +1,4 @@
--- What is printed of a plan file by `survive`.
+-- The text that `survive` prints for a plan file.
 use Rattle.std.specs.Prelude.{◌≡◌, ◌⊎◌, ℕ, List, true, false, count_by, ◌==◌, if◌then◌else◌}
 use Rattle.pb_lan.specs.declared.plan.Plan.{Plan}
 use Rattle.pb_report.specs.Refusals.{IsRefusalText}
@@ -12,15 +12,15 @@ use Rattle.pb_cmd_survive.specs.declared.failure.Failure.TheVariants.{Nothing}
 use Rattle.pb_cmd_survive.specs.declared.impact.Impact.{Impact}
 use Rattle.pb_cmd_survive.specs.declared.survive.Asked.{Asked}
 
--- the most events besides ticks that settling takes
+-- the most events besides ticks until convergence
 abbrev pub most_events : ℕ
 most_events = 1000000000
 
--- 4 where some failure parts a service
+-- the exit status: 4 if some failure disconnects a service
 abbrev pub status_of : ℕ → ℕ
 status_of parting = if parting == 0 then 0 else 4
 
--- the report on the plan's network with nothing down, and under each failure that is asked for
+-- the report on the plan's network with nothing down, and under each requested failure
 pub record IsReport (plan : Plan) (asked : Asked) (status : ℕ) (text : List ℕ) : Type 0 where
   pub found : is_found plan asked.scope ≡ true
   pub base : Impact
@@ -30,19 +30,19 @@ pub record IsReport (plan : Plan) (asked : Asked) (status : ℕ) (text : List �
   pub text_is : text ≡ report_text plan (from_of plan asked.scope) base impacts
   pub status_is : status ≡ status_of (count_by (parts (from_of plan asked.scope) base) impacts)
 
--- the plan has not what is named
+-- the plan lacks the service or port of the scope
 pub record IsLacking (plan : Plan) (asked : Asked) (status : ℕ) (text : List ℕ) : Type 0 where
   pub lacking : is_found plan asked.scope ≡ false
   pub text_is : text ≡ no_such_line asked.scope
   pub status_is : status ≡ 2
 
--- what is said of the plan that the file tells
+-- the text for the plan in the file
 pub record IsPlanText (file : List ℕ) (asked : Asked) (status : ℕ) (text : List ℕ) : Type 0 where
   pub plan : Plan
   pub specs : List PortSpec
   pub told : Tells file (λ document. IsPlanOf document plan specs)
   pub said : IsReport plan asked status text ⊎ IsLacking plan asked status text
 
--- the answer to a file, with the program's exit status
+-- the text for a file, with the exit status of the program
 abbrev pub IsSurviveText : List ℕ → Asked → ℕ → List ℕ → Type 0
 IsSurviveText file asked status text = IsPlanText file asked status text ⊎ ((status ≡ 1) × IsRefusalText file text)

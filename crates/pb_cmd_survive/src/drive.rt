@@ -1,4 +1,4 @@
-//! Driving a network into a failure.
+//! Drives a network into a failure.
 
 ghost use Rattle.std.specs.Prelude.{◌≡◌, ◌++◌, ◌+◌, IfOk, OnOk};
 ghost use Rattle.pb_converge.specs.Falls.{fresh};
@@ -17,7 +17,7 @@ use pb_lan::{End, Event, LinkPlan, Plan};
 use pb_net::{Net, NetFault};
 use std::alloc::Global;
 
-/// How long a network may take to settle.
+/// The limits on driving a network to convergence.
 #[derive(Clone, Copy, PartialEq, Eq, Debug)]
 pub struct Patience {
     /// The most ticks of each bridge.
@@ -26,7 +26,7 @@ pub struct Patience {
     pub events: u64,
 }
 
-/// Whether the failure takes a link down.
+/// Checks whether the failure disables the link with this number.
 fn is_hit(failure: Failure, number: u8, link: &LinkPlan) -> bool
     ensures { result ≡ is_hit failure number link.now }
 {
@@ -38,7 +38,7 @@ fn is_hit(failure: Failure, number: u8, link: &LinkPlan) -> bool
     }
 }
 
-/// The event that sets the end of a link down.
+/// Returns the event that disables the port at an end of a link.
 fn set_down(end: &End) -> Event
     ensures { result ≡ set_down end.now }
 {
@@ -49,7 +49,7 @@ fn set_down(end: &End) -> Event
     }
 }
 
-/// Puts the events behind others that set both ends of a link down, if the failure takes it down.
+/// Appends the two events that disable both ends of a link, if the failure disables it.
 fn put_downs(
     events: &mut Vec<Event>,
     failure: Failure,
@@ -65,7 +65,7 @@ fn put_downs(
     Ok(())
 }
 
-/// The events that set both ends down of each link that the failure takes down.
+/// Returns the events that disable both ends of each link that fails, in the plan's order.
 fn downs(alloc: Global, plan: &Plan, failure: Failure) -> Result<Vec<Event>, Memory>
     requires { IsSound plan.now }
     ensures { IfOk result (λ events. events.items ≡ downs plan.now failure) }
@@ -77,7 +77,7 @@ fn downs(alloc: Global, plan: &Plan, failure: Failure) -> Result<Vec<Event>, Mem
     Ok(events)
 }
 
-/// Sets both ends down of each link that the failure takes down.
+/// Disables both ends of each link that fails.
 fn take_down(alloc: Global, net: &mut Net, plan: &Plan, failure: Failure) -> Result<(), DriveFault>
     requires sound { IsSound plan.now }
     requires plan { net.old.plan ≡ plan.now }
@@ -93,7 +93,7 @@ fn take_down(alloc: Global, net: &mut Net, plan: &Plan, failure: Failure) -> Res
     }
 }
 
-/// Sets the links down, and lets the bridges settle again.
+/// Disables the links that fail, and drives the network to convergence again.
 fn fail(
     alloc: Global,
     net: &mut Net,
@@ -111,7 +111,8 @@ fn fail(
     settle(alloc, net, plan, patience.ticks, patience.events)
 }
 
-/// Lets the bridges settle, and again after the failure.
+/// Drives a new network to convergence, then into the failure and to convergence again. With `Failure::Nothing` it
+/// converges once.
 pub(crate) fn drive(
     alloc: Global,
     net: &mut Net,

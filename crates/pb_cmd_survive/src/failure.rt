@@ -1,4 +1,4 @@
-//! What may fail.
+//! The failures.
 
 ghost use Rattle.std.specs.Prelude.{◌≡◌, ◌+◌, ◌++◌, ◌<◌, map, length, IfOk, OnOk};
 ghost use Rattle.pb_lan.specs.Numbering.{numbers_from};
@@ -11,20 +11,20 @@ use pb_frame::Memory;
 use pb_lan::{BridgePlan, LinkPlan, Plan};
 use std::alloc::Global;
 
-/// What fails, by the numbers of links and bridges from 1, in the plan's order.
+/// A failure, by the numbers of links and bridges from 1, in the plan's order.
 #[derive(Clone, Copy, PartialEq, Eq, Debug)]
 pub enum Failure {
-    /// Nothing.
+    /// No failure.
     Nothing,
-    /// This link.
+    /// The failure of this link.
     Link(u8),
-    /// These two links, the first with the lower number.
+    /// The failure of these two links, the first with the lower number.
     Pair(u8, u8),
-    /// This bridge, with all links at it.
+    /// The failure of this bridge, and with it of all links at it.
     Bridge(u8),
 }
 
-/// Which failures are looked at beside those of each single link.
+/// The kinds of failures that are analysed besides those of each single link.
 #[derive(Clone, Copy, PartialEq, Eq, Debug)]
 pub struct Kinds {
     /// Those of each single bridge.
@@ -33,7 +33,7 @@ pub struct Kinds {
     pub pairs: bool,
 }
 
-/// Puts the failure of each link behind others.
+/// Appends the failure of each link.
 fn put_links(failures: &mut Vec<Failure>, links: &[LinkPlan]) -> Result<(), Memory>
     requires { length links.now < 256 }
     ensures { OnOk result (failures.new.items ≡ failures.old.items ++ map link_fails (numbers_from 1 links.now)) }
@@ -44,7 +44,7 @@ fn put_links(failures: &mut Vec<Failure>, links: &[LinkPlan]) -> Result<(), Memo
     Ok(())
 }
 
-/// Puts the failure of each bridge behind others.
+/// Appends the failure of each bridge.
 fn put_bridges(failures: &mut Vec<Failure>, bridges: &[BridgePlan]) -> Result<(), Memory>
     requires { length bridges.now < 256 }
     ensures { OnOk result (failures.new.items ≡ failures.old.items ++ map bridge_fails (numbers_from 1 bridges.now)) }
@@ -55,7 +55,7 @@ fn put_bridges(failures: &mut Vec<Failure>, bridges: &[BridgePlan]) -> Result<()
     Ok(())
 }
 
-/// Puts the failures of a link and each later one behind others. So many links come before the later ones.
+/// Appends the failures of a link together with each later one. `before` is the number of links before the later ones.
 fn put_with(
     failures: &mut Vec<Failure>,
     link: u8,
@@ -72,7 +72,7 @@ fn put_with(
     Ok(())
 }
 
-/// Puts the failures of each two links behind others.
+/// Appends the failures of each two links.
 fn put_pairs(failures: &mut Vec<Failure>, links: &[LinkPlan]) -> Result<(), Memory>
     requires { length links.now < 256 }
     ensures { OnOk result (failures.new.items ≡ failures.old.items ++ pairs_of (numbers_from 1 links.now)) }
@@ -83,10 +83,12 @@ fn put_pairs(failures: &mut Vec<Failure>, links: &[LinkPlan]) -> Result<(), Memo
     Ok(())
 }
 
-/// All failures of the kinds that are asked for, each once: those of single links, then those of single
-/// bridges, then those of two links, each in the plan's order.
+/// Returns all failures of the kinds, each once: those of single links, then those of single bridges, then those of
+/// two links, each in the plan's order.
 ///
-/// `Memory` is answered where there was none for the list, and nothing else is refused.
+/// # Errors
+///
+/// `Memory` if an allocation failed.
 pub fn failures(alloc: Global, plan: &Plan, kinds: Kinds) -> Result<Vec<Failure>, Memory>
     requires { IsSound plan.now }
     ensures { IfOk result (λ failures. failures.items ≡ all_failures plan.now kinds) }

@@ -1,17 +1,17 @@
-//! What a failure does to the services.
+//! The impact of a failure on the services.
 
 use crate::failure::Failure;
 use crate::view::View;
 use pb_converge::Rest;
 use pb_lan::Seq;
 
-/// What a failure did to the services of a network.
+/// The impact of a failure on the services of a network.
 #[derive(PartialEq, Debug, Drop)]
 pub struct Impact {
-    /// What failed.
+    /// The failure.
     pub failure: Failure,
-    /// Whether the bridges settled after it, and after how many ticks of each.
+    /// Whether the bridges converged after it, and after how many ticks of each.
     pub rest: Rest,
-    /// What is known then of each service that is looked at.
+    /// The state of each analysed service then.
     pub views: Seq<View>,
 }

@@ -1,4 +1,6 @@
-//! What is left of a network when a link, a bridge or two links fail: the command `survive`.
+//! The command `survive`: fails each link in turn, and on request each bridge and each two links, and reports which
+//! services are disconnected. It builds on pb_converge (driving), pb_forest (loops), pb_names and pb_report.
+//! Begin reading at `survive.rt`, [`run_survive`], then [`look_at`] and [`put_report`].
 #![tactic(auto)]
 
 mod drive;

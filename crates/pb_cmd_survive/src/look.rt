@@ -1,4 +1,4 @@
-//! What comes of failures.
+//! The analysis of failures.
 
 ghost use Rattle.std.specs.Prelude.{◌≡◌, IfOk};
 ghost use Rattle.pb_lan.specs.Plans.{IsSound};
@@ -19,7 +19,7 @@ use std::alloc::{AllocError, Global};
 use std::sync::OnceLock;
 use std::thread::Threads;
 
-/// What is known of services after the steps of a record.
+/// Returns the state of services at the end of a record.
 fn last_views(
     alloc: Global,
     plan: &Plan,
@@ -34,16 +34,17 @@ fn last_views(
     views(alloc, plan, &shape, failure, services)
 }
 
-/// What comes of a failure in the network of a sound plan, for the services of these numbers.
+/// Returns the impact of a failure on the network of a sound plan, for the services with these numbers.
 ///
-/// A network of its own is driven: its bridges settle; both ends of each link that the failure takes down are set
-/// down; and the bridges settle again (802.1D-2004 clause 17). With [`Failure::Nothing`] they settle once. The
-/// ticks that are told are those after the failure. Where the plan gives the states of the ports, no bridge ticks:
-/// a port that is set down is Discarding, and all others stay as they are. The active links and the groups are
-/// those of the states at the end.
+/// A new network converges. Then both ends of each link that fails are disabled, and the bridges converge again
+/// (IEEE 802.1D-2004 clause 17). With [`Failure::Nothing`] they converge once. The ticks of the impact are those after
+/// the failure. If the plan gives the states of the ports, no bridge ticks: a disabled port is Discarding, and all
+/// others keep their state. The active links and the groups are those of the states at the end.
 ///
-/// `Memory` is answered where memory ran out, `Steps` where a place was to take more steps than the plan allows, and
-/// `Events` where more events were due than are allowed.
+/// # Errors
+///
+/// `Memory` if an allocation failed, `Steps` if a place would take more steps than the plan allows, and `Events` if
+/// more than `patience.events` events are due.
 pub fn look_at(
     alloc: Global,
     plan: &Plan,
@@ -65,8 +66,8 @@ pub fn look_at(
     })
 }
 
-/// What comes of one of several failures, as [`look_at`] finds out, or the fault that another look has met before. The
-/// first fault that is met is kept in `met`.
+/// Returns the impact of one of several failures, as [`look_at`] does, or the fault in `met` if another analysis has
+/// met one. The first fault is kept in `met`.
 fn look_unless_met(
     alloc: Global,
     plan: &Plan,
@@ -88,11 +89,15 @@ fn look_unless_met(
     looked
 }
 
-/// What comes of each of these failures, each as [`look_at`] finds out, in their order.
+/// Returns the impacts of several failures, in their order, each as [`look_at`] returns it.
 ///
-/// They are looked at side by side, by as many threads as there are processors or two times as many; where a thread
-/// can't be started, what it was to do is done in turn. `progress` is told of each failure that was looked at. The
-/// faults are those of [`look_at`]: once one is met no further look begins, and one that was met is answered.
+/// Failures are analysed in parallel, by as many threads as there are processors or twice as many. If a thread can't be
+/// started, its share is done in turn. `progress.looked` is called after each failure.
+///
+/// # Errors
+///
+/// Those of [`look_at`], and `Memory` if the list can't be allocated. After the first fault no further analysis begins,
+/// and a fault that was met is returned.
 pub fn look_at_all<R: Threads + Sync, V: FailureProgress>(
     rt: &R,
     alloc: Global,

@@ -1,4 +1,4 @@
-//! Which bridges are joined by active links.
+//! Which bridges active links join.
 
 ghost use Rattle.std.specs.Prelude.{◌≡◌, ◌<◌, ◌==◌, ℕ, map, slice_index, if◌then◌else◌};
 ghost use Rattle.pb_lan.specs.Plans.{IsSound};
@@ -8,20 +8,20 @@ use pb_forest::is_active;
 use pb_frame::index_of;
 use pb_lan::{Plan, Shape};
 
-/// A mark for each bridge, of which no two are alike.
+/// A different mark for each bridge.
 const OWN_MARKS: [u8; 32] = [
     0, 1, 2, 3, 4, 5, 6, 7, 8, 9, 10, 11, 12, 13, 14, 15, 16, 17, 18, 19, 20, 21, 22, 23, 24, 25,
     26, 27, 28, 29, 30, 31,
 ];
 
-/// The mark that a bridge has after one mark was replaced by another.
+/// Returns the mark of a bridge after one mark is replaced by another.
 fn replaced(gone: u8, kept: u8, mark: u8) -> u8
     ensures { result ≡ (if mark == gone then kept else mark) }
 {
     if mark == gone { kept } else { mark }
 }
 
-/// All bridges with the mark of the one get that of the other.
+/// Gives all bridges with the mark at index `from` the mark at index `into`.
 fn join(marks: &mut [u8; 32], into: usize, from: usize)
     requires into { into < 32 }
     requires from { from < 32 }
@@ -34,7 +34,7 @@ fn join(marks: &mut [u8; 32], into: usize, from: usize)
     }
 }
 
-/// By bridge, a mark that two bridges share just where the active links of a service join them.
+/// Returns a mark for each bridge. Two bridges have the same mark if and only if active links of the service join them.
 pub(crate) fn marks(plan: &Plan, shape: &Shape, vid: u16) -> [u8; 32]
     requires { IsSound plan.now }
     ensures joined { TellsJoined plan.now shape.now vid result }

@@ -1,4 +1,4 @@
-//! Whether a failure parts a service.
+//! Whether a failure disconnects a service.
 
 ghost use Rattle.std.specs.Prelude.{◌≡◌, ◌==◌, ◌&&◌, not};
 ghost use Rattle.std.specs.List.{list_any, list_all, zip};
@@ -10,7 +10,7 @@ use crate::sites::Site;
 use crate::view::View;
 use pb_converge::Rest;
 
-/// Whether the port is the one that is asked for, where one is.
+/// Checks whether the port is the requested one, or no port is requested.
 fn is_asked(from: Option<u8>, port: u8) -> bool
     ensures { result ≡ is_asked from port }
 {
@@ -20,8 +20,8 @@ fn is_asked(from: Option<u8>, port: u8) -> bool
     }
 }
 
-/// Whether some port that is asked for could reach this one before, and can't now. Each site is given as it was
-/// and as it is.
+/// Checks whether some requested port reached this one before the failure, and can't after it. `was` and `is` are the
+/// port's site before and after.
 pub(crate) fn is_lost(from: Option<u8>, before: &[Site], now: &[Site], was: Site, is: Site) -> bool
     ensures { result ≡ is_lost from (zip before.now now.now) (was, is) }
 {
@@ -30,7 +30,7 @@ pub(crate) fn is_lost(from: Option<u8>, before: &[Site], now: &[Site], was: Site
     })
 }
 
-/// Whether a failure parts a service, which is given as it was before and as it is.
+/// Checks whether a failure disconnects a service, from its views before and after.
 pub(crate) fn parts_view(from: Option<u8>, old: &View, new: &View) -> bool
     ensures { result ≡ parts_view from (old.now, new.now) }
 {
@@ -42,7 +42,7 @@ pub(crate) fn parts_view(from: Option<u8>, old: &View, new: &View) -> bool
         .any(|(was, is)| is_lost(from, before, now, *was, *is))
 }
 
-/// Whether a failure parts some service.
+/// Checks whether a failure disconnects some service.
 pub(crate) fn parts(from: Option<u8>, base: &Impact, impact: &Impact) -> bool
     ensures { result ≡ parts from base.now impact.now }
 {
@@ -53,14 +53,14 @@ pub(crate) fn parts(from: Option<u8>, base: &Impact, impact: &Impact) -> bool
         .any(|(old, new)| parts_view(from, old, new))
 }
 
-/// Whether all services' links are forests.
+/// Checks whether the active links of each service are a forest.
 pub(crate) fn are_forests(views: &[View]) -> bool
     ensures { result ≡ are_forests views.now }
 {
     views.iter().all(|view| view.is_forest)
 }
 
-/// Whether the bridges came to rest.
+/// Checks whether the bridges converged, or had nothing to decide.
 fn is_settled(rest: Rest) -> bool
     ensures { result ≡ is_settled rest }
 {
@@ -70,7 +70,8 @@ fn is_settled(rest: Rest) -> bool
     }
 }
 
-/// Whether a failure changes nothing that is told.
+/// Checks whether a failure has no effect that the report shows: the bridges converge, no service has a loop, and none
+/// is disconnected.
 pub(crate) fn is_quiet(from: Option<u8>, base: &Impact, impact: &Impact) -> bool
     ensures { result ≡ is_quiet from base.now impact.now }
 {

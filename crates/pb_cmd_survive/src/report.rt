@@ -19,7 +19,7 @@ use pb_frame::Memory;
 use pb_lan::Plan;
 use pb_names::{bridge_name, link_name, port_name, service_name};
 
-/// What is down.
+/// Appends what is down.
 fn put_failure(out: &mut String, plan: &Plan, failure: Failure) -> Result<(), Memory>
     ensures { OnOk result (string_bytes out.new ≡ string_bytes out.old ++ failure_text plan.now failure) }
 {
@@ -35,7 +35,7 @@ fn put_failure(out: &mut String, plan: &Plan, failure: Failure) -> Result<(), Me
     Ok(())
 }
 
-/// Whether the bridges settled.
+/// Appends whether the bridges converged, and after how many ticks of each.
 fn put_rest(out: &mut String, rest: Rest) -> Result<(), Memory>
     ensures { OnOk result (string_bytes out.new ≡ string_bytes out.old ++ rest_text rest) }
 {
@@ -47,7 +47,7 @@ fn put_rest(out: &mut String, rest: Rest) -> Result<(), Memory>
     Ok(())
 }
 
-/// Whether the shape is a forest for each service.
+/// Appends whether the shape is a forest for each service.
 fn put_forest(out: &mut String, views: &[View]) -> Result<(), Memory>
     ensures { OnOk result (string_bytes out.new ≡ string_bytes out.old ++ forest_text views.now) }
 {
@@ -59,7 +59,7 @@ fn put_forest(out: &mut String, views: &[View]) -> Result<(), Memory>
     Ok(())
 }
 
-/// The line of a failure.
+/// Appends the first line of a failure.
 fn put_head(out: &mut String, plan: &Plan, impact: &Impact) -> Result<(), Memory>
     ensures { OnOk result (string_bytes out.new ≡ string_bytes out.old ++ head_line plan.now impact.now) }
 {
@@ -71,7 +71,7 @@ fn put_head(out: &mut String, plan: &Plan, impact: &Impact) -> Result<(), Memory
     Ok(())
 }
 
-/// The ports of a group.
+/// Appends the names of the ports of a group.
 fn put_group(out: &mut String, plan: &Plan, sites: &[Site], group: u8) -> Result<(), Memory>
     ensures { OnOk result (string_bytes out.new ≡ string_bytes out.old ++ group_text plan.now sites.now group) }
 {
@@ -83,7 +83,7 @@ fn put_group(out: &mut String, plan: &Plan, sites: &[Site], group: u8) -> Result
     Ok(())
 }
 
-/// The groups of those ports that are the first of theirs.
+/// Appends the groups whose first port is among `later`, each after a bar.
 fn put_later(out: &mut String, plan: &Plan, sites: &[Site], later: &[Site]) -> Result<(), Memory>
     ensures { OnOk result (string_bytes out.new ≡ string_bytes out.old
         ++ flat_map (later_text plan.now sites.now) later.now) }
@@ -97,7 +97,7 @@ fn put_later(out: &mut String, plan: &Plan, sites: &[Site], later: &[Site]) -> R
     Ok(())
 }
 
-/// The groups of a service's ports.
+/// Appends the groups of a service's ports.
 fn put_groups(out: &mut String, plan: &Plan, sites: &[Site]) -> Result<(), Memory>
     ensures { OnOk result (string_bytes out.new ≡ string_bytes out.old ++ groups_text plan.now sites.now) }
 {
@@ -110,7 +110,7 @@ fn put_groups(out: &mut String, plan: &Plan, sites: &[Site]) -> Result<(), Memor
     }
 }
 
-/// The line of a service.
+/// Appends the line of a service.
 fn put_service(out: &mut String, plan: &Plan, view: &View) -> Result<(), Memory>
     ensures { OnOk result (string_bytes out.new ≡ string_bytes out.old ++ service_line plan.now view.now) }
 {
@@ -120,7 +120,7 @@ fn put_service(out: &mut String, plan: &Plan, view: &View) -> Result<(), Memory>
     Ok(())
 }
 
-/// The line of a service whose links are no forest.
+/// Appends the line of a service whose active links form a loop.
 fn put_loop(out: &mut String, plan: &Plan, view: &View) -> Result<(), Memory>
     ensures { OnOk result (string_bytes out.new ≡ string_bytes out.old ++ loop_line plan.now view.now) }
 {
@@ -130,7 +130,7 @@ fn put_loop(out: &mut String, plan: &Plan, view: &View) -> Result<(), Memory>
     Ok(())
 }
 
-/// A port that the one that is asked for can't reach any more.
+/// Appends a port if the requested one can't reach it any more.
 fn put_one_lost(
     out: &mut String,
     plan: &Plan,
@@ -154,7 +154,7 @@ fn put_one_lost(
     Ok(())
 }
 
-/// The ports that the one that is asked for can't reach any more.
+/// Appends the ports that the requested one can't reach any more.
 fn put_lost(
     out: &mut String,
     plan: &Plan,
@@ -171,7 +171,7 @@ fn put_lost(
     Ok(())
 }
 
-/// The line of a port that is cut off from others.
+/// Appends the line of a port that is cut off from others.
 fn put_cut_off(
     out: &mut String,
     plan: &Plan,
@@ -189,7 +189,7 @@ fn put_cut_off(
     Ok(())
 }
 
-/// How a service is parted.
+/// Appends how a service is disconnected: its groups, or the ports from which the requested port is cut off.
 fn put_parting(
     out: &mut String,
     plan: &Plan,
@@ -206,7 +206,7 @@ fn put_parting(
     }
 }
 
-/// What is told of a service under a failure.
+/// Appends the lines of a service under a failure.
 fn put_view(
     out: &mut String,
     plan: &Plan,
@@ -223,7 +223,7 @@ fn put_view(
     Ok(())
 }
 
-/// What is told of all services under a failure.
+/// Appends the lines of all services under a failure.
 fn put_views(
     out: &mut String,
     plan: &Plan,
@@ -240,7 +240,7 @@ fn put_views(
     Ok(())
 }
 
-/// What is told with nothing down.
+/// Appends the lines of the network with nothing down.
 fn put_whole(out: &mut String, plan: &Plan, impact: &Impact) -> Result<(), Memory>
     ensures { OnOk result (string_bytes out.new ≡ string_bytes out.old ++ whole_text plan.now impact.now) }
 {
@@ -252,7 +252,7 @@ fn put_whole(out: &mut String, plan: &Plan, impact: &Impact) -> Result<(), Memor
     Ok(())
 }
 
-/// Appends the impact of a failure to a text.
+/// Appends the impact of a failure, if the report shows it.
 fn put_impact(
     out: &mut String,
     plan: &Plan,
@@ -276,7 +276,7 @@ fn put_impact(
     )
 }
 
-/// Appends the impacts of all failures to a text.
+/// Appends the impacts of all failures.
 fn put_impacts(
     out: &mut String,
     plan: &Plan,
@@ -293,16 +293,18 @@ fn put_impacts(
     Ok(())
 }
 
-/// Puts the report on a network with nothing down, and under failures, behind a text, and answers how many of the
-/// failures part a service.
+/// Appends the report on a network with nothing down and under failures. Returns how many of the failures disconnect a
+/// service.
 ///
-/// First comes what is so with nothing down: whether the bridges settled and after how many ticks, whether the active
-/// links are a forest for each service, and the groups of each service's customer ports. Then each failure that changes
-/// something is told the same way, with the services that it parts, then how many change nothing and the most ticks
-/// that settling took after these, and how many part a service. Where `from` names a customer port, only what cuts that
-/// port off counts as parting.
+/// First come the lines of the network with nothing down: whether the bridges converged and after how many ticks of
+/// each, whether the active links are a forest for each service, and the groups of each service's customer ports. Then
+/// each failure with an effect has the same lines, with the services that it disconnects. Last come the number of
+/// failures without effect, with the most ticks to convergence after one of them, and the number of failures that
+/// disconnect a service. If `from` is a customer port's number, only ports that this one can't reach any more count.
 ///
-/// `Memory` is answered where memory ran out, and then a part of the report may stand there.
+/// # Errors
+///
+/// `Memory` if an allocation failed. A part of the report may have been appended then.
 pub fn put_report(
     out: &mut String,
     plan: &Plan,

@@ -1,4 +1,4 @@
-//! Which services are looked at.
+//! The services to analyse.
 
 ghost use Rattle.std.specs.Prelude.{◌≡◌, ◌++◌, ◌∷◌, [], string_bytes, IfOk, OnOk};
 ghost use Rattle.pb_lan.specs.Numbering.{numbers_from};
@@ -10,18 +10,18 @@ use pb_lan::Plan;
 use pb_names::{port_named, service_at, service_named};
 use std::alloc::Global;
 
-/// Which services are looked at.
+/// The services to analyse.
 #[derive(Clone, Copy)]
 pub enum Scope<'a> {
     /// All of them.
     All,
-    /// The one of this name.
+    /// The one with this name.
     Service(&'a str),
-    /// The one of the customer port of this name, and only what that port can reach.
+    /// The service of the customer port with this name, and of it only what that port reaches.
     From(&'a str),
 }
 
-/// The numbers of all services.
+/// Returns the numbers of all services.
 fn all_services(alloc: Global, plan: &Plan) -> Result<Vec<u8>, Memory>
     requires { IsSound plan.now }
     ensures { IfOk result (λ services. services.items ≡ numbers_from 1 plan.now.services) }
@@ -33,7 +33,7 @@ fn all_services(alloc: Global, plan: &Plan) -> Result<Vec<u8>, Memory>
     Ok(services)
 }
 
-/// The list of one service.
+/// Returns the list of one service.
 fn one_service(alloc: Global, service: u8) -> Result<Vec<u8>, Memory>
     ensures { IfOk result (λ services. services.items ≡ service ∷ []) }
 {
@@ -42,7 +42,7 @@ fn one_service(alloc: Global, service: u8) -> Result<Vec<u8>, Memory>
     Ok(services)
 }
 
-/// The numbers of the services that are looked at.
+/// Returns the numbers of the services to analyse.
 pub(crate) fn services_of(alloc: Global, plan: &Plan, scope: &Scope<'_>) -> Result<Vec<u8>, Memory>
     requires { IsSound plan.now }
     ensures { IfOk result (λ services. services.items ≡ services_of plan.now scope.now) }
@@ -54,7 +54,7 @@ pub(crate) fn services_of(alloc: Global, plan: &Plan, scope: &Scope<'_>) -> Resu
     }
 }
 
-/// The number of the customer port that is asked for, where one is.
+/// Returns the number of the requested customer port, if there is one.
 pub(crate) fn from_of(plan: &Plan, scope: &Scope<'_>) -> Option<u8>
     requires { IsSound plan.now }
     ensures { result ≡ from_of plan.now scope.now }
@@ -65,7 +65,7 @@ pub(crate) fn from_of(plan: &Plan, scope: &Scope<'_>) -> Option<u8>
     }
 }
 
-/// Whether the plan has what is named.
+/// Checks whether the plan has the service or port of the scope.
 pub(crate) fn is_found(plan: &Plan, scope: &Scope<'_>) -> bool
     requires { IsSound plan.now }
     ensures { result ≡ is_found plan.now scope.now }
@@ -77,7 +77,7 @@ pub(crate) fn is_found(plan: &Plan, scope: &Scope<'_>) -> bool
     }
 }
 
-/// Puts that the plan lacks what is named behind a text.
+/// Appends that the plan lacks the service or port of the scope.
 pub(crate) fn put_no_such(out: &mut String, scope: &Scope<'_>) -> Result<(), Memory>
     ensures { OnOk result (string_bytes out.new ≡ string_bytes out.old ++ no_such_line scope.now) }
 {

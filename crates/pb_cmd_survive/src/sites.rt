@@ -1,4 +1,4 @@
-//! The customer ports of a service, in groups that can reach each other.
+//! The customer ports of a service, in groups that reach each other.
 
 ghost use Rattle.std.specs.Prelude.{◌≡◌, ◌<◌, map, length, IfOk};
 ghost use Rattle.pb_forest.specs.ServiceVids.{vid_numbered};
@@ -13,7 +13,7 @@ use pb_frame::{Memory, index_of};
 use pb_lan::{Plan, Shape};
 use std::alloc::Global;
 
-/// A customer port, and the group of those that it can reach.
+/// A customer port and its group.
 #[derive(Clone, Copy, PartialEq, Eq, Debug)]
 pub struct Site {
     /// Its number in the plan.
@@ -22,7 +22,7 @@ pub struct Site {
     pub group: u8,
 }
 
-/// Whether the failure takes the bridge down.
+/// Checks whether the failure is that of the bridge.
 fn is_out(failure: Failure, bridge: u8) -> bool
     ensures { result ≡ is_out failure bridge }
 {
@@ -32,7 +32,7 @@ fn is_out(failure: Failure, bridge: u8) -> bool
     }
 }
 
-/// The numbers of the customer ports of a service.
+/// Returns the numbers of the customer ports of a service, in the plan's order.
 fn ports_of(alloc: Global, plan: &Plan, service: u8) -> Result<Vec<u8>, Memory>
     requires { IsSound plan.now }
     ensures { IfOk result (λ ports. ports.items ≡ ports_of plan.now service) }
@@ -46,7 +46,8 @@ fn ports_of(alloc: Global, plan: &Plan, service: u8) -> Result<Vec<u8>, Memory>
     Ok(ports)
 }
 
-/// A number that two customer ports share just where they can reach each other.
+/// Returns a number that two customer ports share if and only if they reach each other: the mark of the bridge, or one
+/// of the port's own if the bridge failed.
 fn color_of(plan: &Plan, marks: &[u8; 32], failure: Failure, port: u8) -> u8
     requires { IsSound plan.now }
     ensures { result ≡ color_of plan.now marks.now failure port }
@@ -58,7 +59,7 @@ fn color_of(plan: &Plan, marks: &[u8; 32], failure: Failure, port: u8) -> u8
     }
 }
 
-/// The first of the ports that can reach this one.
+/// Returns the first of the ports that reaches this one.
 fn lead_of(plan: &Plan, marks: &[u8; 32], failure: Failure, ports: &[u8], port: u8) -> u8
     requires { IsSound plan.now }
     ensures { result ≡ lead_of (color_of plan.now marks.now failure) ports.now port }
@@ -72,7 +73,7 @@ fn lead_of(plan: &Plan, marks: &[u8; 32], failure: Failure, ports: &[u8], port: 
     0
 }
 
-/// The ports with their groups.
+/// Returns the ports with their groups.
 fn sites_of(
     alloc: Global,
     plan: &Plan,
@@ -94,13 +95,15 @@ fn sites_of(
     Ok(sites)
 }
 
-/// The customer ports of a service in a shape, in groups that can reach each other. They are in the plan's order.
+/// Returns the customer ports of a service in a shape, in groups that reach each other. They are in the plan's order.
 ///
-/// Two ports have one group if and only if links that are active for the service join their bridges. A link is
-/// active where both its ends are Forwarding and members of the service (802.1Q clause 8.8). Where a bridge
-/// failed, each of its own ports is alone, and reaches only itself. `service` is a service's number, from 1.
+/// Two ports have one group if and only if links that are active for the service join their bridges. A link is active
+/// if both its ends are Forwarding and members of the service (IEEE 802.1Q clause 8.8). If a bridge failed, each of its
+/// customer ports is alone, and reaches only itself. `service` is a service's number, from 1.
 ///
-/// `Memory` is answered where there was none for the list, and nothing else is refused.
+/// # Errors
+///
+/// `Memory` if an allocation failed.
 pub fn groups(
     alloc: Global,
     plan: &Plan,

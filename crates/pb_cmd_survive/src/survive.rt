@@ -22,41 +22,40 @@ use std::alloc::Global;
 use std::io::Write;
 use std::thread::Threads;
 
-/// The exit status where no failure parts a service.
+/// The exit status if no failure disconnects a service.
 const WHOLE: u8 = 0;
 
-/// The exit status where the file is no plan.
+/// The exit status if the file is not a valid plan.
 const REFUSED: u8 = 1;
 
-/// The exit status where the plan lacks what is named.
+/// The exit status if the plan lacks the requested service or port.
 const LACKING: u8 = 2;
 
-/// The exit status where a failure parts a service.
+/// The exit status if a failure disconnects a service.
 const PARTED: u8 = 4;
 
-/// The most events besides ticks that settling takes.
+/// The most events besides ticks until convergence.
 const MOST_EVENTS: u64 = 1_000_000_000;
 
-/// What is asked of a plan.
+/// The options of the command.
 #[derive(Clone, Copy)]
 pub struct Asked<'a> {
-    /// Which failures are looked at beside those of each single link.
+    /// The kinds of failures that are analysed besides those of each single link.
     pub kinds: Kinds,
-    /// Which services are looked at.
+    /// The services to analyse.
     pub scope: Scope<'a>,
-    /// The most ticks of each bridge for which it is waited until they settle.
+    /// The most ticks of each bridge until convergence.
     pub ticks: u32,
 }
 
-/// The exit status by the number of failures that part a service.
+/// Returns the exit status for the number of failures that disconnect a service.
 fn status_of(parting: usize) -> u8
     ensures { result ≡ status_of parting }
 {
     if parting == 0 { WHOLE } else { PARTED }
 }
 
-/// Looks at a plan's network with nothing down and under each failure, and puts the report behind a text. Answers the
-/// exit status.
+/// Analyses a plan's network with nothing down and under each failure, and appends the report. Returns the exit status.
 fn put_looks<R: Threads + Sync, V: FailureProgress>(
     rt: &R,
     alloc: Global,
@@ -91,7 +90,7 @@ fn put_looks<R: Threads + Sync, V: FailureProgress>(
     Ok(status_of(parting))
 }
 
-/// Puts what is said of a plan behind a text, and answers the exit status.
+/// Appends the report on a plan, or that it lacks the requested service or port. Returns the exit status.
 fn put_plan<R: Threads + Sync, V: FailureProgress>(
     rt: &R,
     alloc: Global,
@@ -111,7 +110,7 @@ fn put_plan<R: Threads + Sync, V: FailureProgress>(
     Ok(LACKING)
 }
 
-/// Puts what is said of a file behind a text, and answers the exit status.
+/// Appends the report on a plan file, or the rule that it breaks. Returns the exit status.
 fn put_survive<R: Threads + Sync, V: FailureProgress>(
     rt: &R,
     alloc: Global,
@@ -136,19 +135,25 @@ fn put_survive<R: Threads + Sync, V: FailureProgress>(
     }
 }
 
-/// Reads a plan file, and writes what is left of its network under failures, by one `write_all`.
+/// Reads a plan file, and writes a report on its network under failures, by one `write_all`. Returns the exit status.
 ///
-/// What fails is each single link; each single bridge and each two links where that is asked for. [`look_at`] says how
-/// a network is driven into a failure, and [`put_report`] what is told of it. The answer is the same each time, though
-/// [`look_at_all`] looks at failures side by side. `progress` is told of each that was looked at, and at last, whatever
-/// came of them, that no more are; then the answer is written. The exit status is 0 where no failure parts a service,
-/// and 4 where one does. Where the plan lacks the service or the customer port that is named, `no such service NAME` or
-/// `no such port NAME` is written, and the answer is 2. Of a file that is no plan `plan: N WORD` is written, as `check`
-/// does, and the answer is 1.
+/// Each single link fails, and each single bridge and each two links if `asked.kinds` has them. [`look_at`] analyses a
+/// failure, [`look_at_all`] analyses several in parallel, and [`put_report`] makes the report, which is the same each
+/// time. `progress.looked` is called after each failure, and `progress.close` once, before anything is written,
+/// whatever the result.
 ///
-/// `Memory` is answered where memory ran out, and `Steps` where a place was to take more steps than the plan allows,
-/// or more than 1,000,000,000 events besides ticks were due until the bridges settled. Nothing was written then.
-/// `Write` is answered where a write failed, and then nothing is said of what was written. No other fault comes.
+/// | Exit status | When | Text |
+/// |---|---|---|
+/// | 0 | no failure disconnects a service | the report |
+/// | 1 | the file is not a valid plan | `plan: N WORD`, as `check` prints it |
+/// | 2 | the plan lacks the service or port of the scope | `no such service NAME` or `no such port NAME` |
+/// | 4 | a failure disconnects a service | the report |
+///
+/// # Errors
+///
+/// `Memory` if an allocation failed, and `Steps` if a place would take more steps than the plan allows or more than
+/// 1,000,000,000 events besides ticks are due until convergence. Nothing was written then. `Write` if a write failed;
+/// what was written is unknown then. `Read` never comes.
 pub fn run_survive<R: Threads + Sync, V: FailureProgress, W: Write>(
     rt: &R,
     alloc: Global,

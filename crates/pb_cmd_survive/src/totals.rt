@@ -1,4 +1,4 @@
-//! How many failures change nothing, and how many part a service.
+//! The last lines of the report: how many failures have no effect, and how many disconnect a service.
 
 ghost use Rattle.std.specs.Prelude.{◌≡◌, ◌++◌, length, count_by, string_bytes, OnOk};
 ghost use Rattle.pb_cmd_survive.specs.Reports.{quiet_line, quiet_count_line, quiet_ticks, slowest};
@@ -9,7 +9,7 @@ use crate::parting::{is_quiet, parts};
 use pb_converge::Rest;
 use pb_frame::Memory;
 
-/// A number of failures that change nothing.
+/// Appends the line of the failures without effect.
 fn put_quiet_count(out: &mut String, quiet: usize, all: usize, ticks: u32) -> Result<(), Memory>
     ensures { OnOk result (string_bytes out.new ≡ string_bytes out.old ++ quiet_count_line quiet all ticks) }
 {
@@ -20,7 +20,7 @@ fn put_quiet_count(out: &mut String, quiet: usize, all: usize, ticks: u32) -> Re
     Ok(())
 }
 
-/// The number of failures that change nothing, where there are any.
+/// Appends the line of the failures without effect, if there are any.
 fn put_quiet(out: &mut String, quiet: usize, all: usize, ticks: u32) -> Result<(), Memory>
     ensures { OnOk result (string_bytes out.new ≡ string_bytes out.old ++ quiet_line quiet all ticks) }
 {
@@ -30,7 +30,7 @@ fn put_quiet(out: &mut String, quiet: usize, all: usize, ticks: u32) -> Result<(
     put_quiet_count(out, quiet, all, ticks)
 }
 
-/// A number of failures that part a service.
+/// Appends the line of the failures that disconnect a service.
 fn put_parting_count(out: &mut String, parting: usize, all: usize) -> Result<(), Memory>
     ensures { OnOk result (string_bytes out.new ≡ string_bytes out.old ++ parting_count_line parting all) }
 {
@@ -38,7 +38,7 @@ fn put_parting_count(out: &mut String, parting: usize, all: usize) -> Result<(),
     Ok(())
 }
 
-/// The number of failures that part a service, or that there are none.
+/// Appends how many failures disconnect a service, or that none does.
 pub(crate) fn put_verdict(out: &mut String, parting: usize, all: usize) -> Result<(), Memory>
     ensures { OnOk result (string_bytes out.new ≡ string_bytes out.old ++ verdict_line parting all) }
 {
@@ -49,7 +49,7 @@ pub(crate) fn put_verdict(out: &mut String, parting: usize, all: usize) -> Resul
     put_parting_count(out, parting, all)
 }
 
-/// How many of the failures part a service.
+/// Returns how many of the failures disconnect a service.
 pub(crate) fn count_parting(from: Option<u8>, base: &Impact, impacts: &[Impact]) -> usize
     ensures { result ≡ count_by (parts from base.now) impacts.now }
 {
@@ -59,7 +59,7 @@ pub(crate) fn count_parting(from: Option<u8>, base: &Impact, impacts: &[Impact])
         .count()
 }
 
-/// How many of the failures change nothing.
+/// Returns how many of the failures have no effect that the report shows.
 fn count_quiet(from: Option<u8>, base: &Impact, impacts: &[Impact]) -> usize
     ensures { result ≡ count_by (is_quiet from base.now) impacts.now }
 {
@@ -69,7 +69,7 @@ fn count_quiet(from: Option<u8>, base: &Impact, impacts: &[Impact]) -> usize
         .count()
 }
 
-/// The ticks after which the bridges settled, if the failure changes nothing.
+/// Returns the ticks of each bridge until convergence after a failure without effect, or 0 if it has an effect.
 fn quiet_ticks(from: Option<u8>, base: &Impact, impact: &Impact) -> u32
     ensures { result ≡ quiet_ticks from base.now impact.now }
 {
@@ -82,7 +82,7 @@ fn quiet_ticks(from: Option<u8>, base: &Impact, impact: &Impact) -> u32
     }
 }
 
-/// The most ticks that it took until the bridges settled after a failure that changes nothing.
+/// Returns the most ticks of each bridge until convergence after a failure without effect.
 fn slowest(from: Option<u8>, base: &Impact, impacts: &[Impact]) -> u32
     ensures { result ≡ slowest from base.now impacts.now }
 {
@@ -93,7 +93,7 @@ fn slowest(from: Option<u8>, base: &Impact, impacts: &[Impact]) -> u32
     most
 }
 
-/// The number of failures that change nothing, where there are any, and the most ticks that settling took after them.
+/// Appends the number of failures without effect, if there are any, and the most ticks to convergence after them.
 pub(crate) fn put_all_quiet(
     out: &mut String,
     from: Option<u8>,

@@ -1,4 +1,4 @@
-//! What is known of services in a shape.
+//! The state of services in a shape.
 
 ghost use Rattle.std.specs.Prelude.{◌≡◌, ◌↔◌, IsTrue, IfOk};
 ghost use Rattle.pb_forest.specs.ServiceVids.{vid_numbered};
@@ -13,18 +13,18 @@ use pb_frame::Memory;
 use pb_lan::{Plan, Seq, Shape};
 use std::alloc::Global;
 
-/// What is known of a service in a shape.
+/// The state of a service in a shape.
 #[derive(PartialEq, Debug, Drop)]
 pub struct View {
     /// Its number in the plan.
     pub service: u8,
-    /// Whether the links that are active for it are a forest: they join no bridges in a ring.
+    /// Whether its active links are a forest, that is, form no loop.
     pub is_forest: bool,
-    /// Its customer ports in the plan's order, each with the group of those that it can reach.
+    /// Its customer ports in the plan's order, each with its group.
     pub sites: Seq<Site>,
 }
 
-/// Whether the links that are active for a service are a forest.
+/// Checks whether the active links of a service are a forest.
 fn is_forest(alloc: Global, plan: &Plan, shape: &Shape, service: u8) -> Result<bool, Memory>
     requires { IsSound plan.now }
     ensures { IfOk result (λ yes. IsTrue yes ↔ IsForest plan.now shape.now (vid_numbered plan.now service)) }
@@ -35,7 +35,7 @@ fn is_forest(alloc: Global, plan: &Plan, shape: &Shape, service: u8) -> Result<b
     }
 }
 
-/// What is known of a service.
+/// Returns the state of a service.
 fn view_of(
     alloc: Global,
     plan: &Plan,
@@ -55,9 +55,11 @@ fn view_of(
     })
 }
 
-/// What is known of each of these services, by number, in a shape to which a failure has led.
+/// Returns the state of each of these services, by number, in the shape at the end of a failure.
 ///
-/// `Memory` is answered where there was none for the lists, and nothing else is refused.
+/// # Errors
+///
+/// `Memory` if an allocation failed.
 pub fn views(
     alloc: Global,
     plan: &Plan,

@@ -1,4 +1,4 @@
--- Frames that come in one after the other.
+-- Frames that are injected one after the other.
 use Rattle.std.proofs.Common.{◌≡◌, ◌<◌, ◌+◌, ℕ, Bool, true, false, List, [], ◌∷◌, ◌++◌, take, length, get_or}
 use Rattle.std.proofs.Common.{string_bytes, Option, Ok, refl, sym, ap, subst, ◌∙◌, append_assoc, append-nil}
 use Rattle.std.proofs.lemmas.List.{take_more}
@@ -29,7 +29,7 @@ use Rattle.pb_cmd_trace.specs.declared.round.FrameId.{FrameId}
 use Rattle.pb_cmd_trace.specs.declared.walk.Course.{Course}
 use Rattle.pb_cmd_trace.specs.declared.walk.Course.TheVariants.{Ended, GoesRound}
 
--- one story more
+-- one more trace after several, for the loop of travel
 stories-snoc : (plan : Plan) (entries : List Entry) (entry : Entry) (old mid new : NetView) (text more : List ℕ)
     → AreStories plan entries old mid text → AnswersEntry plan entry fate_ended mid new more
     → AreStories plan (entries ++ entry ∷ []) old new (text ++ more)
@@ -64,7 +64,7 @@ stories-more plan entries k entry old mid new first text more out out' within is
       (stories-snoc plan (take k entries) entry old mid new text more stories here),
 )
 
--- a frame that has just come in was followed
+-- entry, walk and conclusion make up the trace of a frame, for the contract of follow
 pub follow_joined : (plan : Plan) (port number : ℕ) (old walked new : NetView) (course : Course) (fate : Fate)
     (head body rest out one two out' : List ℕ)
     → IsEntry plan port number old head → HasWalked plan (Feed port ∷ []) course old walked body
@@ -89,7 +89,7 @@ follow_joined plan port number old walked new course fate head body rest out one
       },
     )
 
--- it came in before
+-- the frame was injected before it was followed, for the contract of trace_frame
 pub frame_followed : (plan : Plan) (port : ℕ) (frame : List ℕ) (fate : Fate) (place : Place)
     (old polled new : NetView) (text : List ℕ)
     → IsAnswer old (Poll port frame) (Ok (Done place)) polled → IsFollowed plan port fate polled new text
@@ -97,7 +97,7 @@ pub frame_followed : (plan : Plan) (port : ℕ) (frame : List ℕ) (fate : Fate)
 frame_followed plan port frame fate place old polled new text h f =
     followed polled (subst (λ q. IsAnswer old (Poll port frame) (Ok (Done q)) polled) h.1 h) f
 
--- the customer port where a frame came in is there, and has taken one step more
+-- the customer port of an injected frame exists, and has taken one more step
 pub port_there : (port : ℕ) (frame : List ℕ) (place : Place) (old new : NetView)
     → IsAnswer old (Poll port frame) (Ok (Done place)) new → has_place new.plan (Customer port) ≡ true
 port_there port frame place old new h = subst (λ p. has_place p (Customer port) ≡ true) (sym h.2) h.0.named
@@ -106,7 +106,7 @@ pub port_grew : (port : ℕ) (frame : List ℕ) (place : Place) (old new : NetVi
     → IsAnswer old (Poll port frame) (Ok (Done place)) new → HasGrown new.rec (Customer port)
 port_grew port frame place old new h = (old.rec, h.3.0, h.3.2)
 
--- a walk concludes with a frame that ended, or goes round
+-- a walk ends with a frame that went as far as it goes or is in a loop, so no port and no frame is missing
 not_lacking : (course : Course) (fate : Fate) (number : ℕ) (walked new : NetView) (rest : List ℕ)
     → IsConclusion course fate number walked new rest
     → (fate ≡ fate_no_port → ⊥) × (fate ≡ fate_no_frame → ⊥)
@@ -121,7 +121,7 @@ not_lacking GoesRound fate number walked new rest c = (
       = sym c.0 ∙ e in cc,
 )
 
--- the plan lacks the port of a frame
+-- the fate NoPort shows that the plan lacks the port
 no_port : (plan : Plan) (port : ℕ) (frame : List ℕ) (fate : Fate) (old new : NetView) (text : List ℕ)
     → fate ≡ fate_no_port → AnswersFrame plan port frame fate old new text
     → has_place old.plan (Customer port) ≡ false
@@ -138,7 +138,7 @@ entry_lacks_port plan entry old new text e (sent frame s h) =
     (no_port plan (port_named plan (string_bytes entry.port)) frame fate_no_port old new text refl h)
 entry_lacks_port plan entry old new text e (unsent is none same t) = cc
 
--- digits are no frame
+-- the digits of an injected frame are a frame, so the fate NoFrame does not come
 is_a_frame : (plan : Plan) (port : ℕ) (frame : List ℕ) (fate : Fate) (old new : NetView) (text : List ℕ)
     → fate ≡ fate_no_frame → AnswersFrame plan port frame fate old new text → ⊥
 is_a_frame plan port frame fate old new text e (followed polled h f) =
@@ -152,7 +152,7 @@ entry_is_none plan entry old new text (sent given s h) = λ frame is. is_a_frame
     (port_named plan (string_bytes entry.port)) given fate_no_frame old new text refl h
 entry_is_none plan entry old new text (unsent is none same t) = none
 
--- a frame goes round
+-- a frame in a loop ends the traces, for the loop of travel
 pub round_told : (plan : Plan) (entries : List Entry) (k : ℕ) (entry : Entry) (frame : FrameId)
     (old mid new : NetView) (first text more out out' : List ℕ) → k < length entries → entry ≡ get_or entries k entry
     → out ≡ first ++ text → AreStories plan (take k entries) old mid text → out' ≡ out ++ more
@@ -177,7 +177,7 @@ round_told plan entries k entry frame old mid new first text more out out' withi
   },
 )
 
--- what the command has done, of the plan that a file tells
+-- what the command has written for the plan of a file, for the contract of run_trace
 pub told_of : (file : List ℕ) (plan : Plan) (entries : List Entry) (settles : Bool) (end : TraceEnd)
     (before after : Option (List ℕ)) → IsToldBy file plan → HasTraced plan entries settles end before after
     → HasTold file entries settles end before after

@@ -1,4 +1,4 @@
--- How a frame and its copies go on, step by step.
+-- The walk of a frame and its copies, step by step.
 use Rattle.std.proofs.Common.{◌≡◌, ◌+◌, ℕ, suc, true, List, [], ◌∷◌, ◌++◌, refl}
 use Rattle.std.proofs.Common.{ap, subst, ◌∙◌, arith, append_assoc}
 use Rattle.pb_lan.specs.declared.plan.Plan.{Plan}
@@ -7,7 +7,7 @@ use Rattle.pb_cmd_trace.specs.Walks.{GoesOn, Walks, HasWalked}
 use Rattle.pb_cmd_trace.specs.declared.onward.Onward.{Onward}
 use Rattle.pb_cmd_trace.specs.declared.walk.Course.TheVariants.{GoesRound}
 
--- one step more
+-- one more step, for the loop of walk_on
 pub walks-more : (n : ℕ) (plan : Plan) (start : List Onward) (old mid new : NetView) (todo others : List Onward)
     (onward : Onward) (todo' : List Onward) (first text out out' : List ℕ)
     → todo ≡ others ++ onward ∷ [] → Walks n plan start old todo mid text → out ≡ first ++ text
@@ -23,7 +23,7 @@ walks-more n plan start old mid new todo others onward todo' first text out out'
           (mid, others, onward, next, text, line, here, gone, todo_is, refl),
     )
 
--- as many steps were taken as may be
+-- 1,000 steps make a walk that ends in a loop
 pub walked-round : (n : ℕ) (plan : Plan) (start todo : List Onward) (old new : NetView) (text : List ℕ) → n ≡ 1000
     → Walks n plan start old todo new text → HasWalked plan start GoesRound old new text
 walked-round n plan start todo old new text full walks = record { count = n; todo = todo; walks = walks; ended = full }

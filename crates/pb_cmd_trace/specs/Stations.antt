@@ -1,4 +1,4 @@
--- Which stations a bridge's steps have shown.
+-- The stations that a bridge has learnt, by its steps.
 use Rattle.std.specs.Prelude.{ℕ, Bool, false, List, ◌==◌, ◌&&◌, not, Some, None, if◌then◌else◌}
 use Rattle.std.specs.List.{list_any}
 use Rattle.std.specs.declared.option.Option.{Option}
@@ -13,11 +13,12 @@ use Rattle.pb_lan.specs.declared.step.Step.{Step}
 use Rattle.pb_lan.specs.declared.step.Step.TheVariants.{Receive}
 use Rattle.pb_names.specs.Places.{customer_at}
 
--- the VID as which a frame came in: that of the customer port's service, or of its own tag
+-- the VID of a received frame: that of the customer port's service, or of the frame's own tag
 abbrev pub vid_by : Plan → Option CustomerPlan → List ℕ → Option ℕ
 vid_by plan (Some customer) wire = Some (vid_at plan customer)
 vid_by plan None wire = if has_service_tag wire then Some (vid_of wire) else None
 
+-- the VID of a frame that a bridge received at a port
 abbrev pub came_as : Plan → ℕ → ℕ → List ℕ → Option ℕ
 came_as plan bridge port wire = vid_by plan (customer_at plan bridge port) wire
 
@@ -25,16 +26,17 @@ abbrev pub is_vid : ℕ → Option ℕ → Bool
 is_vid vid None = false
 is_vid vid (Some other) = other == vid
 
--- the step has shown the station in the service of the VID, and the bridge has noted where it is
+-- by this step the bridge has learnt the station in the service with the VID
 abbrev pub shows : Plan → ℕ → ℕ → List ℕ → Step → Bool
 shows plan bridge vid mac (Receive port item learnt outcome moved) =
     is_noted learnt && is_vid vid (came_as plan bridge port item.wire) && same (src_of item.wire) mac
 shows plan bridge vid mac _ = false
 
+-- by some step the bridge has learnt the station in the service with the VID
 abbrev pub is_shown : Plan → ℕ → List Step → List ℕ → Option ℕ → Bool
 is_shown plan bridge steps mac None = false
 is_shown plan bridge steps mac (Some vid) = list_any (shows plan bridge vid mac) steps
 
--- the frame is for one station, and the bridge's steps have shown it
+-- the frame is for one station, and the bridge has learnt it by one of these steps
 abbrev pub is_known : Plan → ℕ → List Step → ℕ → List ℕ → Bool
 is_known plan bridge steps port wire = not (is_group (dst_of wire)) && is_shown plan bridge steps (dst_of wire) (came_as plan bridge port wire)

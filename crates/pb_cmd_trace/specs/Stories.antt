@@ -1,4 +1,4 @@
--- What becomes of frames that come in one after the other.
+-- The traces of frames that are injected one after the other.
 use Rattle.std.specs.Prelude.{◌≡◌, ◌<◌, ℕ, Bool, true, false, List, [], ◌∷◌, ◌++◌, Some, None, Ok, Err, codes, length, take, slice_get, string_bytes, ◌==◌, if◌then◌else◌}
 use Rattle.std.specs.Fmt.{decimal}
 use Rattle.pb_converge.specs.Rests.{rest_line}
@@ -29,33 +29,33 @@ use Rattle.pb_cmd_trace.specs.declared.round.FrameId.{FrameId}
 use Rattle.pb_cmd_trace.specs.declared.walk.Course.{Course}
 use Rattle.pb_cmd_trace.specs.declared.walk.Course.TheVariants.{Ended, GoesRound}
 
--- the bridges were let settle, where that was asked for
+-- the bridges converged first, if that was requested
 abbrev pub HasBegun : Bool → NetView → NetView → List ℕ → Type 0
 HasBegun true old new text = (rest : Rest) × HasRested 200 1000000000 rest old new × (text ≡ rest_line rest)
 HasBegun false old new text = (new ≡ old) × (text ≡ [])
 
--- the number of a frame that came in among those of its port
+-- the number of an injected frame among those of its port
 abbrev pub entry_number : Step → ℕ
 entry_number (Polled item) = number_in item.mark
 entry_number _ = 0
 
--- a frame has just come in at a customer port
+-- a frame was just injected at a customer port
 pub record IsEntry (plan : Plan) (port number : ℕ) (net : NetView) (text : List ℕ) : Type 0 where
   pub step : Step
   pub newest : newest_at net.rec (Customer port) ≡ Some step
   pub number_is : number ≡ entry_number step
   pub text_is : text ≡ entry_line plan port step
 
--- other events that were due
+-- the number of other events that were due
 abbrev pub others_line : ℕ → List ℕ
 others_line others = if others == 0 then [] else (codes "others " ++ decimal others ++ 10 ∷ [])
 
--- a frame went as far as it goes, and all else that was due was done; or it goes round, and nothing else was done
+-- a frame went as far as it goes, and all else that was due was done; or it is in a loop, and nothing else was done
 abbrev pub IsConclusion : Course → Fate → ℕ → NetView → NetView → List ℕ → Type 0
 IsConclusion Ended fate number old new text = (fate ≡ fate_ended) × ((others : ℕ) × HasDrained others old new × (text ≡ others_line others))
 IsConclusion GoesRound fate number old new text = (fate ≡ fate_round number) × (new ≡ old) × (text ≡ [])
 
--- a frame that has just come in at a customer port was followed
+-- a frame that was just injected at a customer port was followed
 pub record IsFollowed (plan : Plan) (port : ℕ) (fate : Fate) (old new : NetView) (text : List ℕ) : Type 0 where
   pub number : ℕ
   pub head : List ℕ
@@ -68,31 +68,31 @@ pub record IsFollowed (plan : Plan) (port : ℕ) (fate : Fate) (old new : NetVie
   pub conclusion : IsConclusion course fate number walked new rest
   pub text_is : text ≡ head ++ body ++ rest
 
--- a frame came in and was followed; or the port held another one; or there is no such port
+-- a frame was injected and followed; or the port held another one; or there is no such port
 pub data AnswersFrame (plan : Plan) (port : ℕ) (frame : List ℕ) (fate : Fate) (old new : NetView) (text : List ℕ) : Type 0 where
   followed : (polled : NetView) → IsAnswer old (Poll port frame) (Ok (Done (Customer port))) polled → IsFollowed plan port fate polled new text
       → AnswersFrame plan port frame fate old new text
   waits : fate ≡ fate_ended → IsAnswer old (Poll port frame) (Ok Idle) new → text ≡ idle_line → AnswersFrame plan port frame fate old new text
   absent : fate ≡ fate_no_port → IsAnswer old (Poll port frame) (Err NoSuch) new → text ≡ [] → AnswersFrame plan port frame fate old new text
 
--- the digits are those of the frame, which has an octet at least
+-- the digits are those of the frame, which has at least one octet
 abbrev pub IsSent : Entry → List ℕ → Type 0
 IsSent entry frame = IsHex (string_bytes entry.hex) frame × (0 < length frame)
 
--- the frame of the entry came in at the port of its name; or its digits are no frame
+-- the frame of the entry was injected at the port of its name; or its digits are no frame
 pub data AnswersEntry (plan : Plan) (entry : Entry) (fate : Fate) (old new : NetView) (text : List ℕ) : Type 0 where
   sent : (frame : List ℕ) → IsSent entry frame → AnswersFrame plan (port_named plan (string_bytes entry.port)) frame fate old new text
       → AnswersEntry plan entry fate old new text
   unsent : fate ≡ fate_no_frame → ((frame : List ℕ) → IsSent entry frame → ⊥) → new ≡ old → text ≡ [] → AnswersEntry plan entry fate old new text
 
--- the frames came in one after the other, and each went as far as it goes
+-- the frames were injected one after the other, and each went as far as it goes
 abbrev pub AreStories : Plan → List Entry → NetView → NetView → List ℕ → Type 0
 AreStories plan [] old new text = (new ≡ old) × (text ≡ [])
 AreStories plan (entry ∷ entries) old new text =
     (between : NetView) × (front : List ℕ) × (back : List ℕ)
     × AnswersEntry plan entry fate_ended old between front × AreStories plan entries between new back × (text ≡ front ++ back)
 
--- those before this one did, and this one goes round
+-- the frames before this one did, and this one is in a loop
 pub record IsRoundStory (plan : Plan) (entries : List Entry) (frame : FrameId) (old new : NetView) (text : List ℕ) : Type 0 where
   pub index : ℕ
   pub entry : Entry
@@ -105,15 +105,16 @@ pub record IsRoundStory (plan : Plan) (entries : List Entry) (frame : FrameId) (
   pub port : frame.port ≡ port_named plan (string_bytes entry.port)
   pub text_is : text ≡ front ++ back
 
--- the plan lacks the customer port of an entry; the digits of an entry are no frame
+-- the plan lacks the customer port of the entry at this index
 abbrev pub LacksPort : Plan → List Entry → ℕ → Type 0
 LacksPort plan entries index =
     (entry : Entry) × (slice_get entries index ≡ Some entry) × (has_place plan (Customer (port_named plan (string_bytes entry.port))) ≡ false)
 
+-- the digits of the entry at this index are no frame
 abbrev pub LacksFrame : List Entry → ℕ → Type 0
 LacksFrame entries index = (entry : Entry) × (slice_get entries index ≡ Some entry) × ((frame : List ℕ) → IsSent entry frame → ⊥)
 
--- what became of all of them
+-- the traces of all frames, by their end
 abbrev pub HasJourneyed : Plan → List Entry → Journey → NetView → NetView → List ℕ → Type 0
 HasJourneyed plan entries (Told None) old new text = AreStories plan entries old new text
 HasJourneyed plan entries (Told (Some frame)) old new text = IsRoundStory plan entries frame old new text

@@ -1,4 +1,4 @@
--- What a record tells of the frames that came in.
+-- The summary of the injected frames, from a record.
 use Rattle.std.specs.Prelude.{ℕ, Bool, true, false, List, [], ◌∷◌, ◌++◌, Option, Some, None, is_some, length, flat_map, codes, sum_by, count_by, nat_lt, ◌==◌, ◌&&◌, ◌||◌, if◌then◌else◌}
 use Rattle.std.specs.Fmt.{decimal}
 use Rattle.std.specs.List.{list_any}
@@ -24,27 +24,30 @@ abbrev pub takes : FrameId → Step → Bool
 takes frame (Take number item lost) = is_frame frame item.mark
 takes frame _ = false
 
--- it went over a link twice in one direction
+-- the frame passed a link twice or more in one direction
 abbrev pub is_passed_twice : Record → FrameId → ℕ → Bool
 is_passed_twice rec frame link =
     nat_lt 1 (count_by (takes frame) (steps_of rec.lanes (lane_ab link))) || nat_lt 1 (count_by (takes frame) (steps_of rec.lanes (lane_ba link)))
 
+-- the link's name, if so
 abbrev pub passed_word : Plan → Record → FrameId → ℕ → List ℕ
 passed_word plan rec frame link = if is_passed_twice rec frame link then codes " " ++ link_name plan link else []
 
+-- the names of all such links, in the plan's order
 abbrev pub passed_words : Plan → Record → FrameId → List ℕ
 passed_words plan rec frame = flat_map (passed_word plan rec frame) (numbers_from 1 plan.links)
 
--- that a frame goes round, where one does
+-- the line of a frame in a forwarding loop, if there is one
 abbrev pub round_line : Plan → Record → Option FrameId → List ℕ
 round_line plan rec None = []
 round_line plan rec (Some frame) = codes "goes round over" ++ passed_words plan rec frame ++ (codes "; ended after 1000 events" ++ 10 ∷ [])
 
--- a customer port got a frame
+-- a customer port delivered a frame
 abbrev pub is_delivery : Step → Bool
 is_delivery (Deliver item gone) = true
 is_delivery _ = false
 
+-- the port's name, if it did
 abbrev pub left_word : Plan → Record → ℕ → List ℕ
 left_word plan rec port = if list_any is_delivery (steps_of rec.customers port) then codes " " ++ port_name plan port else []
 
@@ -55,30 +58,33 @@ left_words plan rec = flat_map (left_word plan rec) (numbers_from 1 plan.custome
 abbrev pub left_text : List ℕ → List ℕ
 left_text names = if length names == 0 then codes "left nowhere" else codes "left at" ++ names
 
--- frames of customers that went nowhere, and ports that got no copy of one
+-- the copies that an outcome drops: a filtered frame, or one for each port that got no copy
 abbrev pub refused_by : Outcome → ℕ
 refused_by (Relayed chosen refused) = length refused
 refused_by (Filtered reason) = 1
 refused_by Heard = 0
 
+-- those of customer frames alone
 abbrev pub refusals : Step → ℕ
 refusals (Receive port item learnt outcome moved) = if is_some item.mark then refused_by outcome else 0
 refusals _ = 0
 
+-- the customer frames and copies that bridges dropped
 abbrev pub refused : List (List Step) → ℕ
 refused bridges = sum_by (λ steps. sum_by refusals steps) bridges
 
--- frames of customers that lanes lost
+-- the customer frames that a step lost
 abbrev pub losses : Step → ℕ
 losses (Take number item lost) = if lost && is_some item.mark then 1 else 0
 losses _ = 0
 
+-- the customer frames that lanes lost
 abbrev pub lost : List (List Step) → ℕ
 lost lanes = sum_by (λ steps. sum_by losses steps) lanes
 
 abbrev pub counts_text : ℕ → ℕ → List ℕ
 counts_text refused lost = codes "; refused " ++ decimal refused ++ codes "; lost " ++ decimal lost ++ 10 ∷ []
 
--- where frames left, how many went nowhere, and how many were lost
+-- the summary: where frames were delivered, how many were dropped, and how many were lost
 abbrev pub summary_line : Plan → Record → List ℕ
 summary_line plan rec = left_text (left_words plan rec) ++ counts_text (refused rec.bridges) (lost rec.lanes)

@@ -1,4 +1,4 @@
--- What is told of a step of a frame that is under way.
+-- The lines of a frame's steps.
 use Rattle.std.specs.Prelude.{ℕ, zero, suc, ◌+◌, ◌/◌, ◌%◌, min, List, [], ◌∷◌, ◌++◌, Some, None, take, drop, length, codes, nat_lt, ◌==◌, if◌then◌else◌}
 use Rattle.std.specs.Fmt.{decimal}
 use Rattle.std.specs.declared.option.Option.{Option}
@@ -28,11 +28,11 @@ abbrev pub spaces : ℕ → List ℕ
 spaces zero = []
 spaces (suc n) = spaces n ++ codes "  "
 
--- a level for each bridge that has relayed the frame, and one more; no more than 33
+-- the indentation: one level, and one more for each bridge that has relayed the frame, at most 33
 abbrev pub indent : ℕ → List ℕ
 indent hops = spaces (min hops 32 + 1)
 
--- how many bridges have relayed the frame of a step
+-- the number of bridges that have relayed the frame of a step
 abbrev pub hops_of : Step → ℕ
 hops_of (Polled item) = item.hops
 hops_of (Fed item) = item.hops
@@ -48,18 +48,18 @@ hops_of (Administered port up moved) = 0
 abbrev pub tag_text : List ℕ → List ℕ
 tag_text wire = hex_text (take 4 (drop 12 wire))
 
--- the service of a frame, and its priority
+-- the service and the priority of a frame
 abbrev pub service_words : Plan → ℕ → ℕ → List ℕ
 service_words plan vid priority = codes ", " ++ name_of_vid plan vid ++ codes " vid " ++ decimal vid ++ codes " priority " ++ decimal priority
 
--- a customer's frame: that of its port, and the tag's priority where it has a priority tag, which comes off
+-- a customer's frame has the port's service and priority; a priority tag is removed, and its priority counts
 abbrev pub customer_words : Plan → CustomerPlan → List ℕ → List ℕ
 customer_words plan customer wire =
     if has_priority_tag wire
     then service_words plan (vid_at plan customer) (priority_of wire) ++ codes ", tag " ++ tag_text wire ++ codes " taken off"
     else service_words plan (vid_at plan customer) customer.pcp
 
--- a frame from another bridge: that of its tag
+-- a frame from another bridge has the service and the priority of its tag
 abbrev pub tagged_words : Plan → List ℕ → List ℕ
 tagged_words plan wire = if has_service_tag wire then service_words plan (vid_of wire) (priority_of wire) else codes ", untagged"
 
@@ -67,10 +67,11 @@ abbrev pub class_by : Plan → Option CustomerPlan → List ℕ → List ℕ
 class_by plan (Some customer) wire = customer_words plan customer wire
 class_by plan None wire = tagged_words plan wire
 
+-- the service and the priority of a frame that a bridge received at a port
 abbrev pub class_words : Plan → ℕ → ℕ → List ℕ → List ℕ
 class_words plan bridge port wire = class_by plan (customer_at plan bridge port) wire
 
--- what the learning table answered about the source
+-- what the learning table did with the source
 abbrev pub learnt_words : Option Learnt → List ℕ
 learnt_words None = []
 learnt_words (Some New) = codes ", source learnt"
@@ -80,7 +81,7 @@ learnt_words (Some Full) = codes ", table full"
 learnt_words (Some Group) = codes ", source a group"
 learnt_words (Some Memory) = codes ", source not learnt"
 
--- why a relayed frame goes where it goes
+-- why a relayed frame is sent where it is
 abbrev pub way_word : Plan → ℕ → List Step → ℕ → List ℕ → List ℕ → List ℕ
 way_word plan bridge steps port wire chosen =
     if length chosen == 0 then codes ", nowhere" else (if is_known plan bridge steps port wire then codes ", known" else codes ", flooded")
@@ -90,14 +91,14 @@ way_words plan bridge steps port wire (Relayed chosen refused) = way_word plan b
 way_words plan bridge steps port wire (Filtered reason) = []
 way_words plan bridge steps port wire Heard = []
 
--- a bridge received a frame: where, as what, what it learnt, and why the frame goes where it goes
+-- where a bridge received a frame, its service and priority, what was learnt, and why the frame is sent where it is
 abbrev pub receipt_words : Plan → ℕ → ℕ → List Step → Step → List ℕ
 receipt_words plan bridge port steps (Received at item learnt outcome moved) =
     bridge_name plan bridge ++ codes " " ++ decimal port ++ codes " from " ++ neighbour plan bridge port
     ++ class_words plan bridge port item.wire ++ learnt_words learnt ++ way_words plan bridge steps port item.wire outcome
 receipt_words plan bridge port steps _ = []
 
--- a tag is put on at the first bridge, and taken off in front of a customer
+-- a tag is added by the first bridge, and removed before a customer port
 abbrev pub put_on_words : ℕ → List ℕ
 put_on_words hops = if hops == 1 then codes " put on" else []
 
@@ -109,34 +110,37 @@ abbrev pub tag_words : Plan → ℕ → ℕ → Step → List ℕ
 tag_words plan bridge port (Transmitted at item) = tag_by (customer_at plan bridge port) item
 tag_words plan bridge port _ = []
 
--- a bridge sent a frame: where, and what became of its tag
+-- where a bridge sent a frame, and with what tag
 abbrev pub sending_words : Plan → ℕ → ℕ → Step → List ℕ
 sending_words plan bridge port step =
     bridge_name plan bridge ++ codes " " ++ decimal port ++ codes " to " ++ neighbour plan bridge port ++ tag_words plan bridge port step
 
--- a lane of a link
+-- the direction of a lane
 abbrev pub direction_word : ℕ → List ℕ
 direction_word lane = if lane % 2 == 1 then codes " ab" else codes " ba"
 
+-- a lane, by its link and direction
 abbrev pub lane_words : Plan → ℕ → List ℕ
 lane_words plan lane = link_name plan ((lane + 1) / 2) ++ direction_word lane
 
--- what is told of a bridge that received a frame, of one that sent one, of a lane that took one, of a customer port that got one
+-- the line of a bridge that received a frame
 abbrev pub receiving_line : Plan → ℕ → ℕ → List Step → Step → List ℕ
 receiving_line plan bridge port steps step =
     indent (hops_of step) ++ receipt_words plan bridge port steps step ++ codes ": " ++ step_line plan (Bridge bridge) step
 
+-- the line of a bridge that sent a frame
 abbrev pub transmission_line : Plan → ℕ → ℕ → Step → List ℕ
 transmission_line plan bridge port step = indent (hops_of step) ++ sending_words plan bridge port step ++ 10 ∷ []
 
+-- the line of a lane that took a frame
 abbrev pub taking_line : Plan → ℕ → Step → List ℕ
 taking_line plan lane step = indent (hops_of step) ++ lane_words plan lane ++ codes ": " ++ step_line plan (Lane lane) step
 
+-- the line of a customer port that delivered a frame
 abbrev pub delivery_line : Plan → ℕ → Step → List ℕ
 delivery_line plan port step = indent (hops_of step) ++ port_name plan port ++ codes ": " ++ step_line plan (Customer port) step
 
--- what is told of a step, which is the last of its place's. What a customer port hands on and what a lane puts down goes on
--- as it is, and isn't told
+-- the line of a step, which is the last one of its place; a Feed and a Put have no line
 abbrev pub told : Plan → List Step → Onward → Step → List ℕ
 told plan steps (Feed port) step = []
 told plan steps (Put lane) step = []
@@ -145,7 +149,7 @@ told plan steps (Receive bridge port) step = receiving_line plan bridge port ste
 told plan steps (Transmit bridge port) step = transmission_line plan bridge port step
 told plan steps (Take lane) step = taking_line plan lane step
 
--- what is told of a frame that came in
+-- the line of an injected frame
 abbrev pub entry_line : Plan → ℕ → Step → List ℕ
 entry_line plan port (Polled item) = codes "in " ++ hex_text item.wire ++ codes ": " ++ step_line plan (Customer port) (Polled item)
 entry_line plan port _ = []

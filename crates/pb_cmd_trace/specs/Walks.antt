@@ -1,4 +1,4 @@
--- How a frame and its copies go on through a network, step by step.
+-- The walk of a frame and its copies through a network, step by step.
 use Rattle.std.specs.Prelude.{◌≡◌, ◌≤◌, ◌⊎◌, ℕ, zero, suc, Bool, true, false, List, [], ◌∷◌, ◌++◌, Some, Ok}
 use Rattle.pb_lan.specs.Events.{place_of, steps_at}
 use Rattle.pb_lan.specs.Records.{IsLawfulRecord}
@@ -15,7 +15,7 @@ use Rattle.pb_cmd_trace.specs.declared.onward.Onward.{Onward}
 use Rattle.pb_cmd_trace.specs.declared.walk.Course.{Course}
 use Rattle.pb_cmd_trace.specs.declared.walk.Course.TheVariants.{Ended, GoesRound}
 
--- a place took the step that was to be done. It is told, and what follows it is to be done next. The record is a lawful one
+-- a place took the step of the event; its line is printed, what follows is done next, and the record is lawful
 pub record HasGoneOn (plan : Plan) (onward : Onward) (old new : NetView) (line : List ℕ) (next : List Onward) : Type 0 where
   pub step : Step
   pub done : IsAnswer old (event_of onward) (Ok (Done (place_of (event_of onward)))) new
@@ -24,13 +24,13 @@ pub record HasGoneOn (plan : Plan) (onward : Onward) (old new : NetView) (line :
   pub line_is : line ≡ told plan (steps_at new.rec (place_of (event_of onward))) onward step
   pub next_is : next ≡ follows plan onward step
 
--- it did; or it was not due, and nothing changed
+-- the event was done; or it was not due, and nothing changed
 abbrev pub GoesOn : Bool → Plan → Onward → NetView → NetView → List Onward → List Onward → List ℕ → List ℕ → Type 0
 GoesOn true plan onward old new todo todo' out out' =
     (line : List ℕ) × (next : List Onward) × HasGoneOn plan onward old new line next × (todo' ≡ todo ++ next) × (out' ≡ out ++ line)
 GoesOn false plan onward old new todo todo' out out' = IsNotDue old (event_of onward) × (new ≡ old) × (todo' ≡ todo) × (out' ≡ out)
 
--- so many steps were taken, each the last of what was to be done: a copy is followed to its end before the next one
+-- so many steps, each of the last event in the list: a copy is followed to its end before the next one
 abbrev pub Walks : ℕ → Plan → List Onward → NetView → List Onward → NetView → List ℕ → Type 0
 Walks zero plan start old todo new text = (todo ≡ start) × (new ≡ old) × (text ≡ [])
 Walks (suc n) plan start old todo new text =
@@ -38,15 +38,16 @@ Walks (suc n) plan start old todo new text =
     × Walks n plan start old (others ++ onward ∷ []) between before × HasGoneOn plan onward between new line next
     × (todo ≡ others ++ next) × (text ≡ before ++ line)
 
--- nothing is to be done, or what is to be done next is not due
+-- no event is in the list, or the next one is not due
 abbrev pub IsAtEnd : List Onward → NetView → Type 0
 IsAtEnd todo net = (todo ≡ []) ⊎ ((others : List Onward) × (onward : Onward) × (todo ≡ others ++ onward ∷ []) × IsNotDue net (event_of onward))
 
--- the walk came to its end within 1,000 steps, or took as many
+-- the walk came to its end within 1,000 steps, or took 1,000 steps
 abbrev pub HasEnded : Course → ℕ → List Onward → NetView → Type 0
 HasEnded Ended count todo net = (count ≤ 1000) × IsAtEnd todo net
 HasEnded GoesRound count todo net = count ≡ 1000
 
+-- a walk from these events, with its end and its lines
 pub record HasWalked (plan : Plan) (start : List Onward) (course : Course) (old new : NetView) (text : List ℕ) : Type 0 where
   pub count : ℕ
   pub todo : List Onward

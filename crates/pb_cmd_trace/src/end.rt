@@ -1,11 +1,11 @@
-//! How the command ended.
+//! How the command ends.
 
-/// How the command ended, where no fault ended it.
+/// The result of the command, if it ended without a fault.
 #[derive(Clone, Copy, Debug, PartialEq, Eq)]
 pub enum TraceEnd {
-    /// What became of the frames was written.
+    /// The traces were written.
     Told,
-    /// The file is no plan, and the rule that it breaks was written.
+    /// The file is not a valid plan, and the line `plan: N WORD` was written.
     Refused,
     /// The plan lacks the customer port of the frame at this index, from 0. Nothing was written.
     NoPort(usize),

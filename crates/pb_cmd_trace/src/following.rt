@@ -1,4 +1,4 @@
-//! What follows a step of a frame that is under way.
+//! The events that follow a step of a frame on its way.
 
 ghost use Rattle.std.specs.Prelude.{◌≡◌, ◌++◌, ◌==◌, OnOk};
 ghost use Rattle.std.specs.List.{list_any};
@@ -12,7 +12,7 @@ use pb_forest::numbered;
 use pb_frame::Memory;
 use pb_lan::{LinkPlan, NoRoom, Outcome, Plan, Step};
 
-/// The bridge's port to which a customer port hands what it holds.
+/// Queues the bridge's receipt of the frame that a customer port feeds.
 fn push_handed_on(todo: &mut Vec<Onward>, plan: &Plan, port: u8) -> Result<(), Memory>
     ensures { OnOk result (todo.new.items ≡ todo.old.items ++ handed_on plan.now port) }
 {
@@ -22,14 +22,14 @@ fn push_handed_on(todo: &mut Vec<Onward>, plan: &Plan, port: u8) -> Result<(), M
     Ok(())
 }
 
-/// Whether a port is among those that got no copy.
+/// Checks whether a port is among those that got no copy.
 fn is_refused(port: u8, refused: &[(u8, NoRoom)]) -> bool
     ensures { result ≡ list_any (λ r. r.0 == port) refused.now }
 {
     refused.iter().any(|r| r.0 == port)
 }
 
-/// A bridge's port sends its copy, where it got one.
+/// Queues the transmission of a port's copy, if the port got one.
 fn push_sending(
     todo: &mut Vec<Onward>,
     bridge: u8,
@@ -44,7 +44,7 @@ fn push_sending(
     Ok(())
 }
 
-/// The chosen ports send their copies, the first one first.
+/// Queues the transmissions of the chosen ports, the first port last: it is taken first.
 fn push_sendings(
     todo: &mut Vec<Onward>,
     bridge: u8,
@@ -59,7 +59,7 @@ fn push_sendings(
     Ok(())
 }
 
-/// What a bridge does with a frame, by what became of it.
+/// Queues the transmissions that follow from the outcome of a received frame.
 fn push_copies(todo: &mut Vec<Onward>, bridge: u8, outcome: &Outcome) -> Result<(), Memory>
     ensures { OnOk result (todo.new.items ≡ todo.old.items ++ copied bridge outcome.now) }
 {
@@ -72,7 +72,7 @@ fn push_copies(todo: &mut Vec<Onward>, bridge: u8, outcome: &Outcome) -> Result<
     }
 }
 
-/// What a bridge does with a frame that it received.
+/// Queues the transmissions that follow a bridge's Receive step.
 fn push_received(todo: &mut Vec<Onward>, bridge: u8, step: &Step) -> Result<(), Memory>
     ensures { OnOk result (todo.new.items ≡ todo.old.items ++ sent_on bridge step.now) }
 {
@@ -82,7 +82,8 @@ fn push_received(todo: &mut Vec<Onward>, bridge: u8, step: &Step) -> Result<(), 
     }
 }
 
-/// Who fetches what a bridge sends at a port.
+/// Returns the event that takes what a bridge sends at a port: a delivery at a customer port, or a Take of the lane
+/// that starts there.
 fn fetch(plan: &Plan, bridge: u8, port: u8) -> Onward
     requires { IsSound plan.now }
     ensures { result ≡ fetch plan.now bridge port }
@@ -94,7 +95,7 @@ fn fetch(plan: &Plan, bridge: u8, port: u8) -> Onward
     Onward::Take(lane_from(plan, bridge, port))
 }
 
-/// Whether a lane lost the item.
+/// Checks whether a lane lost the item of a step.
 fn is_lost(step: &Step) -> bool
     ensures { result ≡ is_lost step.now }
 {
@@ -104,7 +105,7 @@ fn is_lost(step: &Step) -> bool
     }
 }
 
-/// Where a lane ends.
+/// Returns the receipt at the end of a lane.
 fn arrival(lane: u8, link: &LinkPlan) -> Onward
     ensures { result ≡ arrival lane link.now }
 {
@@ -115,7 +116,7 @@ fn arrival(lane: u8, link: &LinkPlan) -> Onward
     }
 }
 
-/// The bridge's port in front of which a lane puts what it holds.
+/// Queues the far bridge's receipt of the frame that a lane puts there.
 fn push_landing(todo: &mut Vec<Onward>, plan: &Plan, lane: u8) -> Result<(), Memory>
     ensures { OnOk result (todo.new.items ≡ todo.old.items ++ landings plan.now lane) }
 {
@@ -125,7 +126,7 @@ fn push_landing(todo: &mut Vec<Onward>, plan: &Plan, lane: u8) -> Result<(), Mem
     Ok(())
 }
 
-/// Puts what follows a step behind what is to be done.
+/// Appends the events that follow a step to the list of events to do.
 pub(crate) fn push_following(
     todo: &mut Vec<Onward>,
     plan: &Plan,

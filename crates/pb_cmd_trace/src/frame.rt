@@ -1,4 +1,4 @@
-//! What becomes of one frame.
+//! The trace of one frame.
 
 ghost use Rattle.std.specs.Prelude.{◌≡◌, ◌++◌, List, ℕ, true, string_bytes, IfOk, OnOk};
 ghost use Rattle.pb_lan.specs.Events.{has_place};
@@ -20,15 +20,15 @@ use pb_net::{Did, Net, NetFault};
 use pb_step_script::put_idle;
 use std::alloc::Global;
 
-/// The most other events that are done until nothing is due.
+/// The most other events until nothing is due.
 const MOST_OTHERS: u64 = 1_000_000;
 
-/// What became of a frame.
+/// The end of a frame's trace.
 #[derive(Clone, Copy, Debug, PartialEq, Eq)]
 pub(crate) enum Fate {
-    /// It and its copies went as far as they go.
+    /// It and its copies went as far as they go, or its port holds another frame.
     Ended,
-    /// It goes round; its number among the frames of its port.
+    /// It is in a forwarding loop; its number among the frames of its port.
     GoesRound(u64),
     /// The plan lacks its customer port.
     NoPort,
@@ -36,7 +36,7 @@ pub(crate) enum Fate {
     NoFrame,
 }
 
-/// Puts the number of other events behind a text, where there were any.
+/// Appends the number of other events, if there were any.
 fn put_others(out: &mut String, others: u64) -> Result<(), Memory>
     ensures { OnOk result (string_bytes out.new ≡ string_bytes out.old ++ others_line others) }
 {
@@ -46,7 +46,7 @@ fn put_others(out: &mut String, others: u64) -> Result<(), Memory>
     Ok(())
 }
 
-/// The number of a frame that came in among those of its port.
+/// Returns the number of an injected frame among those of its port.
 fn entry_number(step: &Step) -> u64
     ensures { result ≡ entry_number step.now }
 {
@@ -59,7 +59,8 @@ fn entry_number(step: &Step) -> u64
     }
 }
 
-/// Tells a frame that came in at a customer port, and answers its number among those of the port.
+/// Appends the line of a frame that was just injected at a customer port, and returns its number among those of the
+/// port.
 fn tell_entry(
     alloc: Global,
     out: &mut String,
@@ -77,7 +78,7 @@ fn tell_entry(
     Ok(entry_number(step))
 }
 
-/// Does what else is due, and puts the number of these events behind a text, where there were any.
+/// Does what else is due, and appends the number of these events, if there were any.
 fn finish(out: &mut String, plan: &Plan, net: &mut Net) -> Result<(), CommandFault>
     requires sound { IsSound plan.now }
     requires plan { net.old.plan ≡ plan.now }
@@ -91,7 +92,7 @@ fn finish(out: &mut String, plan: &Plan, net: &mut Net) -> Result<(), CommandFau
     }
 }
 
-/// Does what else is due, where a frame went as far as it goes.
+/// Does what else is due, if the frame and its copies went as far as they go.
 fn conclude(
     out: &mut String,
     plan: &Plan,
@@ -114,7 +115,7 @@ fn conclude(
     }
 }
 
-/// Tells a frame that came in at a customer port, and all that follows.
+/// Appends the trace of a frame that was just injected at a customer port.
 fn follow(
     alloc: Global,
     out: &mut String,
@@ -135,7 +136,7 @@ fn follow(
     conclude(out, plan, net, course, number)
 }
 
-/// Lets a frame come in at a customer port, and tells all that follows.
+/// Injects a frame at a customer port, and appends its trace.
 pub(crate) fn trace_frame(
     alloc: Global,
     out: &mut String,

@@ -1,4 +1,4 @@
-//! What becomes of several frames, one after the other.
+//! The traces of several frames, one after the other.
 
 ghost use Rattle.std.specs.Prelude.{◌≡◌, ◌++◌, List, ℕ, string_bytes, IfOk};
 ghost use Rattle.pb_lan.specs.Plans.{IsSound};
@@ -14,10 +14,10 @@ use pb_net::Net;
 use pb_step_script::read_frame;
 use std::alloc::Global;
 
-/// What became of several frames.
+/// The end of the traces of several frames.
 #[derive(Clone, Copy, Debug, PartialEq, Eq)]
 pub(crate) enum Journey {
-    /// They went as far as they go; or this one goes round, and those behind it did not come in.
+    /// All went as far as they go; or this one is in a forwarding loop, and the later ones were not injected.
     Told(Option<FrameId>),
     /// The plan lacks the customer port of the frame at this index.
     NoPort(usize),
@@ -25,7 +25,7 @@ pub(crate) enum Journey {
     NoFrame(usize),
 }
 
-/// Lets a frame come in, and tells all that follows.
+/// Injects the frame of an entry, and appends its trace.
 fn trace_entry(
     alloc: Global,
     out: &mut String,
@@ -46,7 +46,7 @@ fn trace_entry(
     }
 }
 
-/// Lets frames come in one after the other, and tells all that follows each.
+/// Injects frames one after the other, and appends their traces.
 pub(crate) fn travel(
     alloc: Global,
     out: &mut String,

@@ -1,4 +1,6 @@
-//! Where a frame goes in the network of a plan file: the command `trace`.
+//! The command `trace`: follows frames hop by hop through the network of a plan.
+//! It builds on pb_converge (driving), pb_net (one event at a time), pb_names and pb_step_script (the texts of steps).
+//! Begin reading at `trace.rt`, [`run_trace`], then `walk.rt`.
 #![tactic(auto)]
 
 mod end;

@@ -1,4 +1,4 @@
-//! What is named in a trace.
+//! Names in a trace.
 
 ghost use Rattle.std.specs.Prelude.{◌≡◌, ◌==◌};
 ghost use Rattle.pb_cmd_trace.specs.Places.{name_of_vid, neighbour};
@@ -6,7 +6,7 @@ ghost use Rattle.pb_cmd_trace.specs.Places.{name_of_vid, neighbour};
 use pb_lan::Plan;
 use pb_names::{customer_at, link_at};
 
-/// The name of the service that goes by a VID.
+/// Returns the name of the service with a VID, or `no service` if the plan has none.
 pub(crate) fn name_of_vid(plan: &Plan, vid: u16) -> &str
     ensures { result.now ≡ name_of_vid plan.now vid }
 {
@@ -18,7 +18,7 @@ pub(crate) fn name_of_vid(plan: &Plan, vid: u16) -> &str
     "no service"
 }
 
-/// The name of what stands at a bridge's port: a customer port or a link.
+/// Returns the name of the customer port or the link at a bridge's port, or an empty text if none is there.
 pub(crate) fn neighbour(plan: &Plan, bridge: u8, port: u8) -> &str
     ensures { result.now ≡ neighbour plan.now bridge port }
 {

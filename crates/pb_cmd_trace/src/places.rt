@@ -1,4 +1,4 @@
-//! What stands at a bridge's port.
+//! The customer port or lane at a bridge's port.
 
 ghost use Rattle.std.specs.Prelude.{◌≡◌, ◌≤◌};
 ghost use Rattle.pb_lan.specs.Events.{customer_there, lane_from, link_a, link_b};
@@ -7,7 +7,7 @@ ghost use Rattle.pb_lan.specs.Plans.{IsSound};
 use pb_lan::Plan;
 use pb_names::is_end_at;
 
-/// The number of the customer port at a bridge's port, or 0 where none is there.
+/// Returns the number of the customer port at a bridge's port, or 0 if none is there.
 pub(crate) fn customer_there(plan: &Plan, bridge: u8, port: u8) -> u8
     requires { IsSound plan.now }
     ensures { result ≡ customer_there plan.now bridge port }
@@ -20,7 +20,7 @@ pub(crate) fn customer_there(plan: &Plan, bridge: u8, port: u8) -> u8
     0
 }
 
-/// The number of the link whose one end is a bridge's port, or 0 where there is none.
+/// Returns the number of the link whose end a is a bridge's port, or 0 if there is none.
 fn link_a(plan: &Plan, bridge: u8, port: u8) -> u8
     requires { IsSound plan.now }
     ensures number { result ≡ link_a plan.now bridge port }
@@ -34,7 +34,7 @@ fn link_a(plan: &Plan, bridge: u8, port: u8) -> u8
     0
 }
 
-/// The number of the link whose other end is a bridge's port, or 0 where there is none.
+/// Returns the number of the link whose end b is a bridge's port, or 0 if there is none.
 fn link_b(plan: &Plan, bridge: u8, port: u8) -> u8
     requires { IsSound plan.now }
     ensures number { result ≡ link_b plan.now bridge port }
@@ -48,7 +48,7 @@ fn link_b(plan: &Plan, bridge: u8, port: u8) -> u8
     0
 }
 
-/// The lane that leads away from a bridge's port, or 0 where there is none.
+/// Returns the number of the lane that starts at a bridge's port, or 0 if there is none.
 pub(crate) fn lane_from(plan: &Plan, bridge: u8, port: u8) -> u8
     requires { IsSound plan.now }
     ensures { result ≡ lane_from plan.now bridge port }

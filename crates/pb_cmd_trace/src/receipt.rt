@@ -1,4 +1,4 @@
-//! What is told of a frame that a bridge received.
+//! The text of a frame that a bridge received.
 
 ghost use Rattle.std.specs.Prelude.{◌≡◌, ◌≤◌, ◌++◌, take, drop, length, string_bytes, true, OnOk, IfOk};
 ghost use Rattle.pb_frame.specs.Tags.{has_priority_tag, has_service_tag};
@@ -13,7 +13,7 @@ use pb_lan::{CustomerPlan, Learnt, Outcome, Plan, Step};
 use pb_names::{bridge_name, customer_at};
 use std::alloc::Global;
 
-/// The four octets of a service tag, in hexadecimal.
+/// Returns the four octets of a service tag, in hexadecimal.
 pub(crate) fn tag_text(alloc: Global, wire: &[u8]) -> Result<String, Memory>
     requires { 16 ≤ length wire.now }
     ensures { IfOk result (λ text. string_bytes text ≡ text_of_tag wire.now) }
@@ -21,7 +21,7 @@ pub(crate) fn tag_text(alloc: Global, wire: &[u8]) -> Result<String, Memory>
     hex_text(alloc, &wire[12..16])
 }
 
-/// Puts the service and the priority of a frame behind a text.
+/// Appends the service and the priority of a frame.
 fn put_service(out: &mut String, plan: &Plan, vid: u16, priority: u8) -> Result<(), Memory>
     ensures { OnOk result (string_bytes out.new ≡ string_bytes out.old ++ service_words plan.now vid priority) }
 {
@@ -30,7 +30,8 @@ fn put_service(out: &mut String, plan: &Plan, vid: u16, priority: u8) -> Result<
     Ok(())
 }
 
-/// Puts as what a customer's frame came in behind a text. A priority tag comes off (IEEE 802.1ad clause 9).
+/// Appends the service and the priority of a customer's frame. A priority tag is removed (IEEE 802.1ad clause 9), and
+/// its priority replaces the port's.
 fn put_customer(
     alloc: Global,
     out: &mut String,
@@ -51,7 +52,7 @@ fn put_customer(
     Ok(())
 }
 
-/// Puts as what a frame from another bridge came in behind a text.
+/// Appends the service and the priority of a frame from another bridge, by its service tag.
 fn put_tagged(out: &mut String, plan: &Plan, wire: &[u8]) -> Result<(), Memory>
     ensures { OnOk result (string_bytes out.new ≡ string_bytes out.old ++ tagged_words plan.now wire.now) }
 {
@@ -62,7 +63,7 @@ fn put_tagged(out: &mut String, plan: &Plan, wire: &[u8]) -> Result<(), Memory>
     Ok(())
 }
 
-/// Puts as what a frame came in behind a text.
+/// Appends the service and the priority of a frame that a bridge received at a port.
 fn put_class(
     alloc: Global,
     out: &mut String,
@@ -79,7 +80,7 @@ fn put_class(
     }
 }
 
-/// What the learning table answered about the source (IEEE 802.1Q clause 8.7).
+/// Returns the text of what the learning table did with the source (IEEE 802.1Q clause 8.7).
 fn learnt_words(learnt: Option<Learnt>) -> &'static str
     ensures { result.now ≡ learnt_words learnt }
 {
@@ -94,7 +95,7 @@ fn learnt_words(learnt: Option<Learnt>) -> &'static str
     }
 }
 
-/// Why a relayed frame goes to the chosen ports.
+/// Returns why a relayed frame is sent at the chosen ports: its station is known, or it is flooded.
 fn way_word(
     plan: &Plan,
     bridge: u8,
@@ -115,7 +116,7 @@ fn way_word(
     }
 }
 
-/// Why a frame goes where it goes.
+/// Returns why a received frame is sent where it is, or an empty text if it is not relayed.
 fn way_words(
     plan: &Plan,
     bridge: u8,
@@ -135,7 +136,8 @@ fn way_words(
     }
 }
 
-/// Puts behind a text where a bridge received a frame, as what, what it learnt, and why the frame goes where it goes.
+/// Appends where a bridge received a frame, its service and priority, what the bridge learnt, and why the frame is sent
+/// where it is.
 pub(crate) fn put_receipt(
     alloc: Global,
     out: &mut String,

@@ -1,4 +1,4 @@
-//! Letting the bridges settle before frames come in.
+//! Convergence before the first frame.
 
 ghost use Rattle.std.specs.Prelude.{◌≡◌, ◌++◌, List, ℕ, string_bytes, OnOk};
 ghost use Rattle.pb_lan.specs.Plans.{IsSound};
@@ -10,10 +10,10 @@ use pb_messages::CommandFault;
 use pb_net::Net;
 use std::alloc::Global;
 
-/// The most ticks of each bridge until the bridges settle.
+/// The most ticks of each bridge until convergence.
 const MOST_TICKS: u32 = 200;
 
-/// Lets the bridges settle, where that is asked for, and puts behind a text what came of it.
+/// Drives the network to convergence if `settles` is true, and appends the result.
 pub(crate) fn begin(
     alloc: Global,
     out: &mut String,

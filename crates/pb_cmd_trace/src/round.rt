@@ -1,4 +1,4 @@
-//! The links over which a frame goes round.
+//! The links of a forwarding loop.
 
 ghost use Rattle.std.specs.Prelude.{◌≡◌, ◌++◌, ◌*◌, ◌-◌, count_by, string_bytes, OnOk};
 ghost use Rattle.pb_lan.specs.Plans.{IsSound};
@@ -13,13 +13,13 @@ use pb_names::link_name;
 /// A customer's frame.
 #[derive(Clone, Copy, Debug, PartialEq, Eq)]
 pub(crate) struct FrameId {
-    /// The customer port where it came in.
+    /// The customer port at which it was injected.
     pub port: u8,
     /// Its number among the frames of that port.
     pub number: u64,
 }
 
-/// The steps of the place of this number; none where there is no such place.
+/// Returns the steps of the place with this number, or none if there is no such place.
 pub(crate) fn steps_of(places: &[Seq<Step>], number: usize) -> &[Step]
     ensures { result.now ≡ steps_of places.now number }
 {
@@ -29,7 +29,7 @@ pub(crate) fn steps_of(places: &[Seq<Step>], number: usize) -> &[Step]
     }
 }
 
-/// Whether a mark is that of a frame.
+/// Checks whether a mark is that of a frame.
 fn is_frame(frame: FrameId, mark: Option<Mark>) -> bool
     ensures { result ≡ is_frame frame mark }
 {
@@ -39,7 +39,7 @@ fn is_frame(frame: FrameId, mark: Option<Mark>) -> bool
     }
 }
 
-/// Whether a lane took a frame by a step.
+/// Checks whether a step is a lane's Take of a frame.
 fn takes(frame: FrameId, step: &Step) -> bool
     ensures { result ≡ takes frame step.now }
 {
@@ -49,14 +49,14 @@ fn takes(frame: FrameId, step: &Step) -> bool
     }
 }
 
-/// How often a lane took a frame.
+/// Returns how many times a lane took a frame.
 fn passes(frame: FrameId, steps: &[Step]) -> usize
     ensures { result ≡ count_by (takes frame) steps.now }
 {
     steps.iter().filter(|step| takes(frame, step)).count()
 }
 
-/// Whether a frame went over a link twice in one direction.
+/// Checks whether a frame passed a link twice or more in one direction.
 fn is_passed_twice(rec: &Record, frame: FrameId, link: u8) -> bool
     ensures { result ≡ is_passed_twice rec.now frame link }
 {
@@ -69,7 +69,7 @@ fn is_passed_twice(rec: &Record, frame: FrameId, link: u8) -> bool
     1 < there || 1 < back
 }
 
-/// Puts the name of a link behind a text, where a frame went over it twice in one direction.
+/// Appends the name of a link, if a frame passed it twice or more in one direction.
 fn put_passed(
     out: &mut String,
     plan: &Plan,
@@ -86,7 +86,7 @@ fn put_passed(
     Ok(())
 }
 
-/// Puts the names of the links over which a frame went twice in one direction behind a text.
+/// Appends the names of the links that a frame passed twice or more in one direction.
 fn put_all_passed(out: &mut String, plan: &Plan, rec: &Record, frame: FrameId) -> Result<(), Memory>
     requires { IsSound plan.now }
     ensures { OnOk result (string_bytes out.new ≡ string_bytes out.old ++ passed_words plan.now rec.now frame) }
@@ -97,7 +97,7 @@ fn put_all_passed(out: &mut String, plan: &Plan, rec: &Record, frame: FrameId) -
     Ok(())
 }
 
-/// Puts behind a text that a frame goes round, and over which links, where one does.
+/// Appends the line of a frame in a forwarding loop, with the links of the loop, if there is such a frame.
 pub(crate) fn put_round(
     out: &mut String,
     plan: &Plan,

@@ -1,4 +1,4 @@
-//! Which stations a bridge's steps have shown.
+//! The stations that a bridge has learnt, by its steps.
 
 ghost use Rattle.std.specs.Prelude.{◌≡◌, ◌==◌, ◌&&◌};
 ghost use Rattle.std.specs.List.{list_any};
@@ -12,14 +12,14 @@ use pb_frame::{has_service_type, vid_of};
 use pb_lan::{Learnt, Plan, Step};
 use pb_names::customer_at;
 
-/// The destination address of a frame, or less where it is shorter (IEEE 802.3 clause 3.2.3).
+/// Returns the destination address of a frame, or the whole frame if it is shorter (IEEE 802.3 clause 3.2.3).
 pub(crate) fn destination(wire: &[u8]) -> &[u8]
     ensures { result.now ≡ dst_of wire.now }
 {
     if wire.len() < 6 { wire } else { &wire[..6] }
 }
 
-/// The source address of a frame, or less where it is shorter (IEEE 802.3 clause 3.2.3).
+/// Returns the source address of a frame, or what there is of it if the frame is shorter (IEEE 802.3 clause 3.2.3).
 fn source(wire: &[u8]) -> &[u8]
     ensures { result.now ≡ src_of wire.now }
 {
@@ -29,7 +29,7 @@ fn source(wire: &[u8]) -> &[u8]
     destination(&wire[6..])
 }
 
-/// Whether an address is a group's.
+/// Checks whether an address is a group address.
 fn is_group(address: &[u8]) -> bool
     ensures { result ≡ is_group address.now }
 {
@@ -39,14 +39,14 @@ fn is_group(address: &[u8]) -> bool
     }
 }
 
-/// Whether a whole service tag stands behind the addresses (IEEE 802.1ad clause 9).
+/// Checks whether a whole service tag follows the addresses (IEEE 802.1ad clause 9).
 pub(crate) fn has_service_tag(wire: &[u8]) -> bool
     ensures { result ≡ has_service_tag wire.now }
 {
     has_service_type(wire) && wire.len() >= 18
 }
 
-/// The VID as which a frame came in: that of the customer port's service, or of its own tag.
+/// Returns the VID of a frame that a bridge received: that of the customer port's service, or of the frame's own tag.
 fn came_as(plan: &Plan, bridge: u8, port: u8, wire: &[u8]) -> Option<u16>
     ensures { result ≡ came_as plan.now bridge port wire.now }
 {
@@ -57,7 +57,7 @@ fn came_as(plan: &Plan, bridge: u8, port: u8, wire: &[u8]) -> Option<u16>
     }
 }
 
-/// Whether a VID is this one.
+/// Checks whether a VID is this one.
 fn is_vid(vid: u16, other: Option<u16>) -> bool
     ensures { result ≡ is_vid vid other }
 {
@@ -67,14 +67,14 @@ fn is_vid(vid: u16, other: Option<u16>) -> bool
     }
 }
 
-/// Whether the bridge has noted where the source is.
+/// Checks whether the bridge has the source in its learning table afterwards.
 fn is_noted(learnt: Option<Learnt>) -> bool
     ensures { result ≡ is_noted learnt }
 {
     matches!(learnt, Some(Learnt::New | Learnt::Kept | Learnt::Moved))
 }
 
-/// Whether a step has shown a station in the service of a VID, and the bridge has noted where it is.
+/// Checks whether by this step the bridge has learnt a station in the service with a VID.
 fn shows(plan: &Plan, bridge: u8, vid: u16, address: &[u8], step: &Step) -> bool
     ensures { result ≡ shows plan.now bridge vid address.now step.now }
 {
@@ -94,7 +94,7 @@ fn shows(plan: &Plan, bridge: u8, vid: u16, address: &[u8], step: &Step) -> bool
     noted && same_service && same_station
 }
 
-/// Whether the steps have shown a station in the service of a VID.
+/// Checks whether the bridge has learnt a station in the service with a VID, by some step.
 fn is_shown_as(plan: &Plan, bridge: u8, steps: &[Step], address: &[u8], vid: u16) -> bool
     ensures { result ≡ list_any (shows plan.now bridge vid address.now) steps.now }
 {
@@ -106,7 +106,7 @@ fn is_shown_as(plan: &Plan, bridge: u8, steps: &[Step], address: &[u8], vid: u16
     false
 }
 
-/// Whether the steps have shown a station in the service of a VID, where there is one.
+/// Checks whether the bridge has learnt a station in the service with a VID, if there is a VID.
 fn is_shown(plan: &Plan, bridge: u8, steps: &[Step], address: &[u8], vid: Option<u16>) -> bool
     ensures { result ≡ is_shown plan.now bridge steps.now address.now vid }
 {
@@ -116,7 +116,8 @@ fn is_shown(plan: &Plan, bridge: u8, steps: &[Step], address: &[u8], vid: Option
     }
 }
 
-/// Whether a frame that came in at a bridge's port is for one station, and the bridge's steps have shown it.
+/// Checks whether a frame that a bridge received at a port is for one station, and the bridge has learnt it by one of
+/// these steps. Ageing and moves are not considered.
 pub(crate) fn is_known(plan: &Plan, bridge: u8, steps: &[Step], port: u8, wire: &[u8]) -> bool
     ensures { result ≡ is_known plan.now bridge steps.now port wire.now }
 {

@@ -1,4 +1,4 @@
-//! What became of the frames, in one line.
+//! The summary of all frames, in one line.
 
 ghost use Rattle.std.specs.Prelude.{◌≡◌, ◌≤◌, ◌*◌, ◌^◌, ◌++◌, length, sum_by, string_bytes, OnOk};
 ghost use Rattle.std.specs.List.{list_any};
@@ -13,21 +13,21 @@ use pb_lan::{Outcome, Plan, Record, Step};
 use pb_names::port_name;
 use std::alloc::Global;
 
-/// Whether a customer port got a frame by a step.
+/// Checks whether a step is a delivery.
 fn is_delivery(step: &Step) -> bool
     ensures { result ≡ is_delivery step.now }
 {
     matches!(step, Step::Deliver { .. })
 }
 
-/// Whether a customer port got a frame.
+/// Checks whether a customer port delivered a frame.
 fn has_delivered(steps: &[Step]) -> bool
     ensures { result ≡ list_any is_delivery steps.now }
 {
     steps.iter().any(|step| is_delivery(step))
 }
 
-/// Puts the name of a customer port behind a text, where it got a frame.
+/// Appends the name of a customer port, if it delivered a frame.
 fn put_left(out: &mut String, plan: &Plan, rec: &Record, port: u8) -> Result<(), Memory>
     ensures { OnOk result (string_bytes out.new ≡ string_bytes out.old ++ left_word plan.now rec.now port) }
 {
@@ -38,7 +38,7 @@ fn put_left(out: &mut String, plan: &Plan, rec: &Record, port: u8) -> Result<(),
     Ok(())
 }
 
-/// Puts the names of the customer ports that got a frame behind a text.
+/// Appends the names of the customer ports that delivered a frame.
 fn put_all_left(out: &mut String, plan: &Plan, rec: &Record) -> Result<(), Memory>
     requires { IsSound plan.now }
     ensures { OnOk result (string_bytes out.new ≡ string_bytes out.old ++ left_words plan.now rec.now) }
@@ -49,7 +49,7 @@ fn put_all_left(out: &mut String, plan: &Plan, rec: &Record) -> Result<(), Memor
     Ok(())
 }
 
-/// How many copies of a received frame went nowhere.
+/// Returns how many copies were dropped: 1 for a filtered frame, or the number of chosen ports that got no copy.
 fn refused_by(outcome: &Outcome) -> u8
     ensures exact { result ≡ refused_by outcome.now }
     ensures few { result ≤ 16 }
@@ -61,7 +61,7 @@ fn refused_by(outcome: &Outcome) -> u8
     }
 }
 
-/// How many frames of customers, or copies of one, went nowhere by a step.
+/// Returns how many customer frames, or copies of one, a step dropped.
 fn refusals(step: &Step) -> u8
     ensures exact { result ≡ refusals step.now }
     ensures few { result ≤ 16 }
@@ -72,7 +72,7 @@ fn refusals(step: &Step) -> u8
     }
 }
 
-/// How many frames of customers, and copies of them, went nowhere at a bridge.
+/// Returns how many customer frames and copies a bridge dropped.
 fn refused_at(steps: &[Step]) -> u128
     ensures exact { result ≡ sum_by refusals steps.now }
     ensures few { result ≤ 16 * 2 ^ 64 }
@@ -84,7 +84,7 @@ fn refused_at(steps: &[Step]) -> u128
     sum
 }
 
-/// How many frames of customers, and copies of them, went nowhere.
+/// Returns how many customer frames and copies all bridges dropped.
 fn refused(places: &[Seq<Step>]) -> u128
     requires { length places.now ≤ 128 }
     ensures { result ≡ refused places.now }
@@ -96,7 +96,7 @@ fn refused(places: &[Seq<Step>]) -> u128
     sum
 }
 
-/// How many frames of customers were lost by a step: one, or none.
+/// Returns how many customer frames a step lost: 1 or 0.
 fn losses(step: &Step) -> u8
     ensures exact { result ≡ losses step.now }
     ensures few { result ≤ 1 }
@@ -107,7 +107,7 @@ fn losses(step: &Step) -> u8
     }
 }
 
-/// How many frames of customers a lane lost.
+/// Returns how many customer frames a lane lost.
 fn lost_at(steps: &[Step]) -> u128
     ensures exact { result ≡ sum_by losses steps.now }
     ensures few { result ≤ 2 ^ 64 }
@@ -119,7 +119,7 @@ fn lost_at(steps: &[Step]) -> u128
     sum
 }
 
-/// How many frames of customers were lost.
+/// Returns how many customer frames all lanes lost.
 fn lost(places: &[Seq<Step>]) -> u128
     requires { length places.now ≤ 128 }
     ensures { result ≡ lost places.now }
@@ -131,7 +131,7 @@ fn lost(places: &[Seq<Step>]) -> u128
     sum
 }
 
-/// Puts behind a text where frames left, as names tell it.
+/// Appends at which customer ports frames were delivered, from their names.
 fn put_where(out: &mut String, names: &str) -> Result<(), Memory>
     ensures { OnOk result (string_bytes out.new ≡ string_bytes out.old ++ left_text names.now) }
 {
@@ -143,7 +143,7 @@ fn put_where(out: &mut String, names: &str) -> Result<(), Memory>
     Ok(())
 }
 
-/// Puts how many frames and copies went nowhere behind a text, and how many were lost.
+/// Appends how many frames and copies were dropped, and how many were lost.
 fn put_counts(out: &mut String, refused: u128, lost: u128) -> Result<(), Memory>
     ensures { OnOk result (string_bytes out.new ≡ string_bytes out.old ++ counts_text refused lost) }
 {
@@ -151,8 +151,8 @@ fn put_counts(out: &mut String, refused: u128, lost: u128) -> Result<(), Memory>
     Ok(())
 }
 
-/// Puts what became of the frames behind a text: the customer ports at which they left, how many of them or of their
-/// copies went nowhere, and how many were lost.
+/// Appends the summary: the customer ports at which frames were delivered, how many frames and copies bridges dropped,
+/// and how many frames lanes lost.
 pub(crate) fn put_summary(
     alloc: Global,
     out: &mut String,

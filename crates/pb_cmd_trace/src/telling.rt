@@ -1,4 +1,4 @@
-//! What is told of a step of a frame that is under way.
+//! The lines of a frame's steps.
 
 ghost use Rattle.std.specs.Prelude.{◌≡◌, ◌++◌, string_bytes, OnOk};
 ghost use Rattle.pb_cmd_trace.specs.Tellings.{delivery_line, direction_word, entry_line, hops_of, indent, lane_words};
@@ -15,10 +15,10 @@ use pb_names::{bridge_name, customer_at, link_name, port_name};
 use pb_step_script::put_done;
 use std::alloc::Global;
 
-/// The most levels by which a line is moved in, but for one: a frame that goes round has no end of them.
+/// The most levels of indentation, besides the first. A frame in a forwarding loop has no last hop.
 const MOST_LEVELS: u32 = 32;
 
-/// Puts two spaces for each level behind a text.
+/// Appends two spaces for each level.
 fn put_spaces(out: &mut String, levels: u32) -> Result<(), Memory>
     ensures { OnOk result (string_bytes out.new ≡ string_bytes out.old ++ spaces levels) }
 {
@@ -28,7 +28,7 @@ fn put_spaces(out: &mut String, levels: u32) -> Result<(), Memory>
     Ok(())
 }
 
-/// How many bridges have relayed the frame of a step.
+/// Returns how many bridges have relayed the frame of a step.
 fn hops_of(step: &Step) -> u32
     ensures { result ≡ hops_of step.now }
 {
@@ -44,21 +44,21 @@ fn hops_of(step: &Step) -> u32
     }
 }
 
-/// Moves a line in: by a level, and one for each bridge that has relayed its frame.
+/// Appends the indentation of a line: one level, and one more for each bridge that has relayed its frame.
 fn put_indent(out: &mut String, step: &Step) -> Result<(), Memory>
     ensures { OnOk result (string_bytes out.new ≡ string_bytes out.old ++ indent (hops_of step.now)) }
 {
     put_spaces(out, hops_of(step).min(MOST_LEVELS) + 1)
 }
 
-/// Whether a tag was put on here: at the first bridge.
+/// Returns whether the tag was added by this bridge, as text: the first bridge adds it.
 fn put_on_words(hops: u32) -> &'static str
     ensures { result.now ≡ put_on_words hops }
 {
     if hops == 1 { " put on" } else { "" }
 }
 
-/// Puts the tag of a frame that goes to another bridge behind a text.
+/// Appends the tag of a frame that is sent to another bridge.
 fn put_tag(alloc: Global, out: &mut String, item: &Item) -> Result<(), Memory>
     ensures { OnOk result (string_bytes out.new ≡ string_bytes out.old ++ tag_by None item.now) }
 {
@@ -72,7 +72,7 @@ fn put_tag(alloc: Global, out: &mut String, item: &Item) -> Result<(), Memory>
     Ok(())
 }
 
-/// Puts what became of the tag of a frame that a bridge sent behind a text.
+/// Appends the tag of a frame that a bridge sent, or that it was removed.
 fn put_tag_of(
     alloc: Global,
     out: &mut String,
@@ -96,7 +96,7 @@ fn put_tag_of(
     }
 }
 
-/// Puts behind a text where a bridge sent a frame, and what became of its tag.
+/// Appends where a bridge sent a frame, and with what tag.
 fn put_sending(
     alloc: Global,
     out: &mut String,
@@ -113,14 +113,14 @@ fn put_sending(
     put_tag_of(alloc, out, plan, bridge, port, step)
 }
 
-/// The direction of a lane: from a to b, or back.
+/// Returns the direction of a lane: from end a to end b, or back.
 fn direction_word(lane: u8) -> &'static str
     ensures { result.now ≡ direction_word lane }
 {
     if lane % 2 == 1 { " ab" } else { " ba" }
 }
 
-/// Puts a lane of a link behind a text.
+/// Appends a lane, as the name of its link and the direction.
 fn put_lane(out: &mut String, plan: &Plan, lane: u8) -> Result<(), Memory>
     ensures { OnOk result (string_bytes out.new ≡ string_bytes out.old ++ lane_words plan.now lane) }
 {
@@ -129,7 +129,7 @@ fn put_lane(out: &mut String, plan: &Plan, lane: u8) -> Result<(), Memory>
     Ok(())
 }
 
-/// Puts what a bridge did with a frame that it received behind a text.
+/// Appends the line of a frame that a bridge received.
 fn put_receiving(
     alloc: Global,
     out: &mut String,
@@ -148,7 +148,7 @@ fn put_receiving(
     put_done(alloc, out, plan, Place::Bridge(bridge), step)
 }
 
-/// Puts that a bridge sent a frame behind a text.
+/// Appends the line of a frame that a bridge sent.
 fn put_transmission(
     alloc: Global,
     out: &mut String,
@@ -166,7 +166,7 @@ fn put_transmission(
     Ok(())
 }
 
-/// Puts what a customer port got behind a text.
+/// Appends the line of a frame that a customer port delivered.
 fn put_delivery(
     alloc: Global,
     out: &mut String,
@@ -182,7 +182,7 @@ fn put_delivery(
     put_done(alloc, out, plan, Place::Customer(port), step)
 }
 
-/// Puts what a lane took behind a text.
+/// Appends the line of a frame that a lane took.
 fn put_taking(
     alloc: Global,
     out: &mut String,
@@ -198,7 +198,7 @@ fn put_taking(
     put_done(alloc, out, plan, Place::Lane(lane), step)
 }
 
-/// Puts what is told of a step behind a text; it is the last of those of its place.
+/// Appends the line of a step, which is the last one of `steps`. A Feed and a Put have no line.
 pub(crate) fn put_told(
     alloc: Global,
     out: &mut String,
@@ -218,7 +218,7 @@ pub(crate) fn put_told(
     }
 }
 
-/// Puts what is told of a frame that came in behind a text.
+/// Appends the line of an injected frame.
 pub(crate) fn put_entry(
     alloc: Global,
     out: &mut String,

@@ -21,7 +21,7 @@ use pb_service::read_plan;
 use std::alloc::Global;
 use std::io::Write;
 
-/// Puts what became of all frames behind a text.
+/// Appends the last lines: the forwarding loop if there is one, and the summary.
 fn put_end(
     alloc: Global,
     out: &mut String,
@@ -38,7 +38,7 @@ fn put_end(
     put_summary(alloc, out, plan, &rec)
 }
 
-/// Puts what becomes of frames behind a text, from a network that has taken no step.
+/// Appends the traces of frames, from a network that has taken no step.
 fn put_stories(
     alloc: Global,
     out: &mut String,
@@ -63,7 +63,7 @@ fn put_stories(
     }
 }
 
-/// Puts what becomes of frames in the network of a plan behind a text.
+/// Appends the traces of frames in the network of a plan.
 fn put_trace(
     alloc: Global,
     out: &mut String,
@@ -79,7 +79,7 @@ fn put_trace(
     put_stories(alloc, out, plan, net, entries, settles)
 }
 
-/// Writes what becomes of frames in the network of a plan. Where it can't be told, nothing is written.
+/// Writes the traces of frames in the network of a plan. If a port or a frame is missing, nothing is written.
 fn write_trace<W: Write>(
     alloc: Global,
     plan: &Plan,
@@ -104,27 +104,37 @@ fn write_trace<W: Write>(
     }
 }
 
-/// Reads a plan file, lets frames come in one after the other, and writes where each goes, step by step.
+/// Reads a plan file, injects frames one after the other, and writes where each goes, step by step.
 ///
-/// Where `settles` is true and the bridges decide the states of their ports (IEEE 802.1D-2004 clause 17) they settle
-/// before, within 200 ticks of each: the first line is `settled yes ticks N` or `settled no ticks 200`. Each frame
-/// comes in at its customer port when the one before it has gone as far as it goes. Its line is `in HEX: polled PORT
-/// K`; and a line stands for each bridge that received it, `BRIDGE N from NAME, ...` with as what it came in, what was
-/// learnt, why it goes where it goes, and what became of it (IEEE 802.1Q clause 8.6); for each copy that a bridge sent,
-/// `BRIDGE N to NAME, ...` with its S-tag (IEEE 802.1ad clause 9); for each link that took one, `LINK ab: taken K` or
-/// `lost K`; and for each customer port that got one, `PORT: delivered HEX`. A line is moved in by two spaces for each
-/// bridge that has relayed its frame, and two more, up to 66. A copy is followed to its end before the next one, of the
-/// copies of a bridge first the one at the lowest port. The last line is `left at PORT ..; refused N; lost N`: at which
-/// customer ports frames left, how many frames and copies of customers were refused, and how many were lost. A frame
-/// for which 1,000 events were done and more is to be done goes round: then no more frame comes in, and before the last
-/// line stands `goes round over LINK ..; ended after 1000 events` with each link over which it went more than once in
-/// one direction.
+/// If `settles` is true and the bridges run the rapid spanning tree (IEEE 802.1D-2004 clause 17), they converge first,
+/// within 200 ticks of each: the first line is `settled yes ticks N` or `settled no ticks N`. Each frame is injected at
+/// its customer port when the one before it has gone as far as it goes. Its lines are
 ///
-/// Of a file that is no plan the rule is written that it breaks, as `check` does. `NoPort` is answered where the plan
-/// lacks a frame's customer port, `NoFrame` where its digits are no pairs of hexadecimal digits, or none; nothing was
-/// written then. `Memory` is answered where memory ran out, `Steps` where a place was to take more steps than the plan
-/// allows, or 1,000,000,000 events besides ticks did not settle the bridges; nothing was written then. `Write` is
-/// answered where a write failed, and then nothing is said of what was written. No other fault comes.
+/// - `in HEX: polled PORT K` for the injected frame;
+/// - `BRIDGE N from NAME, ..` for each bridge that received it: service and priority, what was learnt, whether the
+///   destination is known, and the outcome (IEEE 802.1Q clause 8.6);
+/// - `BRIDGE N to NAME, ..` for each copy that a bridge sent, with its S-tag (IEEE 802.1ad clause 9);
+/// - `LINK ab: taken K` or `LINK ab: lost K` for each link that took a copy, with `ba` for the other direction;
+/// - `PORT: delivered HEX` for each customer port that delivered one;
+/// - `others N`, if N other events were due afterwards.
+///
+/// A line is indented by two spaces for each bridge that has relayed its frame, and two more, at most 66. A copy is
+/// followed to its end before the next one; of a bridge's copies the one at the lowest port comes first. If the port
+/// still holds another frame, the frame is not injected, and one line reports that.
+///
+/// A frame that takes 1,000 events is in a forwarding loop. No more frames are injected then, and a line names each
+/// link that the frame passed twice or more in one direction. The last line has the customer ports at which frames
+/// were delivered, the number of customer frames and copies that bridges dropped, and the number that links lost.
+///
+/// If the file is not a valid plan, the line `plan: N WORD` is written, as `check` prints it, and `Refused` is
+/// returned. `NoPort` is returned if the plan lacks a frame's customer port, and `NoFrame` if its text is not one or
+/// more pairs of hexadecimal digits. Nothing was written in these two cases.
+///
+/// # Errors
+///
+/// `Memory` if an allocation failed, and `Steps` if a place would take more steps than the plan allows, more than
+/// 1,000,000,000 events besides ticks are due until convergence, or more than 1,000,000 other events are due after a
+/// frame. Nothing was written then. `Write` if a write failed; what was written is unknown then. `Read` never comes.
 pub fn run_trace<W: Write>(
     alloc: Global,
     file: &[u8],

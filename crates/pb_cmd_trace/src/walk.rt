@@ -1,4 +1,4 @@
-//! How a frame and its copies go on through a network, step by step.
+//! The walk of a frame and its copies through a network, step by step.
 
 ghost use Rattle.std.specs.Prelude.{◌≡◌, ◌++◌, ◌∷◌, [], List, ℕ, true, Some, string_bytes, IfOk};
 ghost use Rattle.pb_lan.specs.Events.{has_place, steps_at};
@@ -17,23 +17,22 @@ use pb_messages::CommandFault;
 use pb_net::{Did, Net, NetFault};
 use std::alloc::Global;
 
-/// The most events that are done for a frame besides its coming in.
+/// The most events of a frame after its injection.
 ///
-/// A plan uses at most 256 ports, 128 of them at links. Where no ring is closed a frame leaves each of them once at
-/// most (IEEE 802.1Q clause 8.6), which takes two events, and four at a link. So a frame that takes more than 1,000
-/// goes round.
+/// A plan uses at most 256 ports, 128 of them at links. Without a loop a frame leaves each of them at most once
+/// (IEEE 802.1Q clause 8.6), which takes two events, and four at a link. A frame that takes 1,000 is in a loop.
 const MOST_EVENTS: u32 = 1_000;
 
-/// How far a frame and its copies went.
+/// The end of a walk.
 #[derive(Clone, Copy, Debug, PartialEq, Eq)]
 pub(crate) enum Course {
-    /// As far as they go.
+    /// The frame and its copies went as far as they go.
     Ended,
-    /// Round and round: the most events were done, and more is to be done.
+    /// The most events were done: the frame is in a forwarding loop.
     GoesRound,
 }
 
-/// The steps of a place that has taken one, and the newest of them.
+/// Returns the steps of a place that has taken one, and the newest of them.
 pub(crate) fn newest(net: &Net, place: Place) -> (&[Step], &Step)
     requires has { has_place net.now.plan place ≡ true }
     requires grown { HasGrown net.now.rec place }
@@ -48,8 +47,8 @@ pub(crate) fn newest(net: &Net, place: Place) -> (&[Step], &Step)
     (steps, step)
 }
 
-/// Does what is to be done, where it is due: tells the step, and puts what follows it behind what is to be done.
-/// Answers whether it was due.
+/// Does an event if it is due, appends the line of its step, and appends the events that follow to `todo`. Returns
+/// whether it was due.
 fn go_on(
     alloc: Global,
     out: &mut String,
@@ -77,7 +76,7 @@ fn go_on(
     }
 }
 
-/// Does what is to be done, the last first, and tells each step.
+/// Does the events of `todo`, the last one first, and appends the line of each step.
 fn walk_on(
     alloc: Global,
     out: &mut String,
@@ -102,10 +101,9 @@ fn walk_on(
     Ok(Course::GoesRound)
 }
 
-/// Follows the frame that a customer port holds, with its copies, and puts each step behind a text.
+/// Follows the frame that a customer port holds, with its copies, and appends the line of each step.
 ///
-/// A copy is followed to its end before the next one: of the copies that a bridge makes first the one at the lowest
-/// port.
+/// A copy is followed to its end before the next one; of a bridge's copies the one at the lowest port comes first.
 pub(crate) fn walk(
     alloc: Global,
     out: &mut String,

@@ -1,4 +1,4 @@
--- Texts of several things, one behind the other.
+-- Texts of several parts, one after the other.
 use Rattle.std.proofs.Common.{◌≡◌, ◌≤◌, ◌<◌, ◌+◌, ◌==◌, ℕ, zero, suc, List, [], ◌∷◌, ◌++◌, drop, flat_map, length}
 use Rattle.std.proofs.Common.{slice_get, get_or, codes, Some, IsSome, refl, sym, ap, subst, ◌∙◌, rules}
 use Rattle.std.proofs.Common.{append_assoc, append-nil}
@@ -26,7 +26,7 @@ use Rattle.pb_cmd_tree.specs.TreeTexts.{IsProtocolText, IsTreeText}
 use Rattle.pb_converge.specs.declared.rest.Rest.{Rest}
 use Rattle.pb_converge.specs.declared.rest.Rest.TheVariants.{Given, Settled, Unsettled}
 
--- a bridge's own machine
+-- the machine of a bridge's steps is the one that the network holds, if the bridges run the protocol
 pub machine_is : (plan : Plan) (n : ℕ) (steps : List Step) (machine : Machine) → plan.spanning ≡ Rstp
     → Some machine ≡ machine_in plan n steps → machine ≡ machine_of plan n steps
 machine_is plan n steps machine e h = Some-injective (h ∙ a_machine plan n steps e)
@@ -49,7 +49,7 @@ role_count ports roles k e within =
     let pair : Port → ℕ × Role = λ p. (p.number, p.role) in
     subst (λ n. k < n) (ap length e ∙ length-map ports pair) within
 
--- one port more
+-- one more port: the text so far and the line of port k are the text that put_ports needs for its next turn
 pub ports_more : (plan : Plan) (bridge : ℕ) (machine : Machine) (roles : List (ℕ × Role))
     (states : List (ℕ × PortState)) (k from : ℕ) (d : ℕ × Role) (s : ℕ × PortState) (out more all : List ℕ)
     → roles ≡ roles_of machine.ports → states ≡ states_of machine.ports → k < length roles
@@ -74,7 +74,7 @@ ports_more plan bridge machine roles states k from d s out more all are_roles ar
     ap (λ z. z ++ rest) (grown ∙ ap (λ w. out ++ w) line) ∙ append_assoc out (port_line plan bridge machine p) rest
     ∙ sym (ap (λ ps. out ++ flat_map (port_line plan bridge machine) ps) (from_here machine.ports k p at.1)) ∙ so_far
 
--- each of the roles is a port's
+-- each role belongs to a port, as designated_at requires
 pub port_is_there : (ports : List Port) (roles : List (ℕ × Role)) (k : ℕ) (d : ℕ × Role) → roles ≡ roles_of ports
     → k < length roles → IsSome (port_of ports (get_or roles k d).0)
 port_is_there ports roles k d are_roles within =
@@ -84,7 +84,7 @@ port_is_there ports roles k d are_roles within =
     let found = first-finds (λ (q : Port). q.number == p.number) ports k p at.1 (eqb-refl p.number) in
     subst (λ (r : ℕ × Role). IsSome (port_of ports r.0)) (sym r_is) (subst (λ o. IsSome o) (sym found.1) (search rules))
 
--- the texts of services
+-- one more service: the text of service k completes the text so far, for the next turn of put_services
 pub services_more : (plan : Plan) (shape : Shape) (k : ℕ) (done text rest : List ℕ) → IsServiceTextAt plan shape k text
     → ((others : List ℕ) → AreServiceTexts plan shape (drop k plan.services) others → AreServiceTexts plan shape
     plan.services (done ++ others))
@@ -105,7 +105,7 @@ services_end plan shape k done past complete =
     subst (λ t. AreServiceTexts plan shape plan.services t) (append-nil done)
     (complete [] (subst (λ ss. AreServiceTexts plan shape ss []) (sym (drop_all k plan.services past)) refl))
 
--- what is told of a port before the bridge that serves its link
+-- the line of a port up to the Designated bridge
 abbrev pub shown_words : List ℕ → ℕ → List ℕ → List ℕ → List ℕ → ℕ → List ℕ
 shown_words name port link role state cost =
     codes "port " ++ name ++ codes " " ++ decimal port ++ codes " link " ++ link ++ codes " " ++ role ++ codes " "
@@ -119,7 +119,7 @@ shown_same name name' port link link' role role' state state' cost cost' n l r s
     ∙ ap (λ z. shown_words name' port link' z state cost) r
     ∙ ap (λ z. shown_words name' port link' role' z cost) s ∙ ap (λ z. shown_words name' port link' role' state' z) k
 
--- the thing at a place
+-- the element at an index is what get_or returns there
 pub item_is : {X : Type 0} (xs : List X) (k : ℕ) (x : X) → slice_get xs k ≡ Some x → x ≡ get_or xs k x
 item_is [] k x h = cc
 item_is (y ∷ xs) zero x h = sym (Some-injective h)

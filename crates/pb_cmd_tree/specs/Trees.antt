@@ -1,4 +1,4 @@
--- The command: ends of links go down, the bridges settle, and the trees are printed.
+-- The command: ports are disabled, the bridges converge, and the trees are printed.
 use Rattle.std.specs.Prelude.{ℕ, List, Some, None, Option}
 use Rattle.std.specs.Io.KnownBytes.{Appends, Keeps}
 use Rattle.std.specs.Global.{Global}
@@ -14,14 +14,14 @@ use Rattle.pb_cmd_tree.specs.TreeTexts.{IsTreeText}
 use Rattle.pb_cmd_tree.specs.declared.end.TreeEnd.{TreeEnd}
 use Rattle.pb_cmd_tree.specs.declared.end.TreeEnd.TheVariants.{Told, Refused, NoPort}
 
--- the bridges ticked so often at most, and these are the trees
+-- each bridge ticks at most so many times, and the text has the trees at the end
 pub record AreTreesFrom (plan : Plan) (ticks : ℕ) (fallen : NetView) (text : List ℕ) : Type 0 where
   pub last : NetView
   pub rest : Rest
   pub rested : HasRested ticks 1000000000 rest fallen last
   pub trees : IsTreeText plan last.rec rest text
 
--- the named ends were disabled first
+-- the named ports are disabled first
 pub record AreTrees (plan : Plan) (downs : List (String Global)) (ticks : ℕ) (text : List ℕ) : Type 0 where
   pub fallen : NetView
   pub falls : HaveFallen plan downs fallen
@@ -37,7 +37,7 @@ abbrev pub HasPrinted : Plan → List (String Global) → ℕ → Option ℕ →
 HasPrinted plan downs ticks None before after = (text : List ℕ) × Appends before after text × AreTrees plan downs ticks text
 HasPrinted plan downs ticks (Some index) before after = LacksEnd plan downs index × Keeps before after
 
--- what the command has done: the trees of the plan that the file tells, or the rule that the file breaks
+-- what the command has printed: the trees of the plan in the file, or the rule that the file breaks
 abbrev pub HasTold : List ℕ → List (String Global) → ℕ → TreeEnd → Option (List ℕ) → Option (List ℕ) → Type 0
 HasTold file downs ticks Told before after = (plan : Plan) × IsToldBy file plan × HasPrinted plan downs ticks None before after
 HasTold file downs ticks Refused before after = PrintsRefusal file before after

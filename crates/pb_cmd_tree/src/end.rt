@@ -1,12 +1,12 @@
-//! How the command ended.
+//! How the command ends.
 
-/// How the command ended, where no fault ended it.
+/// The result of the command, if it ended without a fault.
 #[derive(Clone, Copy, Debug, PartialEq, Eq)]
 pub enum TreeEnd {
-    /// The trees were written.
+    /// The trees were printed.
     Told,
-    /// The file is no plan, and the rule that it breaks was written.
+    /// The file is not a valid plan, and the line `plan: N WORD` was printed.
     Refused,
-    /// The argument at this index, from 0, names no port to another bridge. Nothing was written.
+    /// The argument at this index, from 0, names no port to another bridge. Nothing was printed.
     NoPort(usize),
 }

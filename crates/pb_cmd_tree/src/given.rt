@@ -1,4 +1,4 @@
-//! The trees where the plan gives the states of the ports.
+//! The trees of a plan that gives the states of the ports.
 
 ghost use Rattle.std.specs.Prelude.{◌≡◌, ◌++◌, string_bytes, OnOk};
 ghost use Rattle.pb_lan.specs.Plans.{IsSound};
@@ -9,7 +9,7 @@ use pb_frame::Memory;
 use pb_lan::{Plan, Shape};
 use pb_names::{bridge_name, link_at, state_word};
 
-/// Puts the line of a bridge's port behind a text, where a link is there.
+/// Appends the line of a bridge's port, if a link is there.
 fn put_port(
     out: &mut String,
     plan: &Plan,
@@ -30,7 +30,7 @@ fn put_port(
     Ok(())
 }
 
-/// Puts the lines of a bridge and its ports behind a text.
+/// Appends the line of a bridge, then those of its ports in the order of their numbers.
 fn put_bridge(out: &mut String, plan: &Plan, shape: &Shape, bridge: u8) -> Result<(), Memory>
     ensures { OnOk result (string_bytes out.new ≡ string_bytes out.old
         ++ given_bridge_lines plan.now shape.now bridge) }
@@ -43,7 +43,7 @@ fn put_bridge(out: &mut String, plan: &Plan, shape: &Shape, bridge: u8) -> Resul
     Ok(())
 }
 
-/// Puts the lines of all bridges behind a text.
+/// Appends the lines of all bridges, in the plan's order.
 pub(crate) fn put_given(out: &mut String, plan: &Plan, shape: &Shape) -> Result<(), Memory>
     requires { IsSound plan.now }
     ensures { OnOk result (string_bytes out.new ≡ string_bytes out.old ++ given_lines plan.now shape.now) }

@@ -1,4 +1,6 @@
-//! The spanning trees of a plan's network: the command `tree`.
+//! The command `tree`: the spanning trees of a plan's network, after the bridges have converged.
+//! It builds on pb_converge (driving), pb_forest (loops), pb_names and pb_report (texts).
+//! Begin reading at `tree.rt`, [`run_tree`].
 #![tactic(auto)]
 
 mod end;

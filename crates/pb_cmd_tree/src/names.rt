@@ -1,4 +1,4 @@
-//! What is named in the trees of a network.
+//! Names and costs in the lines of a tree.
 
 ghost use Rattle.std.specs.Prelude.{◌≡◌, ◌++◌, string_bytes, OnOk};
 ghost use Rattle.pb_cmd_tree.specs.Names.{id_name, cost_at, link_name_at, path_cost_at};
@@ -7,7 +7,8 @@ use pb_frame::Memory;
 use pb_lan::Plan;
 use pb_names::{bridge_id, is_end_at, link_at};
 
-/// Puts the name of the bridge with an identifier behind a text, or the identifier where no bridge has it.
+/// Appends the name of the bridge with an identifier (IEEE 802.1D-2004 clause 9.2.5), or the identifier in decimal if
+/// no bridge of the plan has it.
 pub(crate) fn put_id(out: &mut String, plan: &Plan, id: u64) -> Result<(), Memory>
     ensures { OnOk result (string_bytes out.new ≡ string_bytes out.old ++ id_name plan.now id) }
 {
@@ -21,7 +22,7 @@ pub(crate) fn put_id(out: &mut String, plan: &Plan, id: u64) -> Result<(), Memor
     Ok(())
 }
 
-/// The name of the link at a bridge's port.
+/// Returns the name of the link at a bridge's port, or an empty text if no link is there.
 pub(crate) fn link_name_at(plan: &Plan, bridge: u8, port: u8) -> &str
     ensures { result.now ≡ link_name_at plan.now bridge port }
 {
@@ -31,7 +32,7 @@ pub(crate) fn link_name_at(plan: &Plan, bridge: u8, port: u8) -> &str
     }
 }
 
-/// The path cost of a bridge's port.
+/// Returns the path cost of a bridge's port, or 0 if no link is there.
 pub(crate) fn path_cost_at(plan: &Plan, bridge: u8, port: u8) -> u32
     ensures { result ≡ path_cost_at plan.now bridge port }
 {

@@ -1,4 +1,4 @@
-//! The trees where the bridges decide the states of their ports.
+//! The trees of a plan whose bridges run the rapid spanning tree.
 
 ghost use Rattle.std.specs.Prelude.{◌≡◌, ◌<◌, ◌++◌, true, Some, length, flat_map, string_bytes, OnOk, IsSome};
 ghost use Rattle.pb_lan.specs.Plans.{IsSound};
@@ -17,14 +17,15 @@ use pb_names::{bridge_name, role_word, state_word};
 use pb_net::Net;
 use pb_rstp::{Role, Rstp};
 
-/// Whether another port serves the link of a port with this role.
+/// Checks whether another port is the Designated port of the link of a port with this role.
 fn is_served(role: Role) -> bool
     ensures { result ≡ is_served role }
 {
     matches!(role, Role::Root | Role::Alternate | Role::Backup)
 }
 
-/// The identifier of the bridge that serves the link of a port.
+/// Returns the identifier of the Designated bridge of a port's link: the one in the vector that the port stores, if
+/// another port serves the link, else the bridge's own.
 fn designated_at(machine: &Rstp, port: u8, role: Role) -> u64
     requires { IsSome (port_of machine.now.ports port) }
     ensures { result ≡ designated_at machine.now port role }
@@ -39,17 +40,17 @@ fn designated_at(machine: &Rstp, port: u8, role: Role) -> u64
     }
 }
 
-/// What is told of a port to another bridge.
+/// The parts of a port's line.
 #[derive(Clone, Copy)]
 struct Shown {
     port: u8,
     role: Role,
     state: PortState,
-    /// The identifier of the bridge that serves its link.
+    /// The identifier of the Designated bridge of its link.
     from: u64,
 }
 
-/// Puts the line of a port behind a text.
+/// Appends the line of a port.
 fn put_port(out: &mut String, plan: &Plan, bridge: u8, shown: &Shown) -> Result<(), Memory>
     ensures { OnOk result (string_bytes out.new ≡ string_bytes out.old
         ++ port_words plan.now bridge shown.now.port shown.now.role shown.now.state shown.now.from) }
@@ -69,7 +70,7 @@ fn put_port(out: &mut String, plan: &Plan, bridge: u8, shown: &Shown) -> Result<
     Ok(())
 }
 
-/// Puts the lines of a bridge's ports behind a text.
+/// Appends the lines of a bridge's ports, in the order of the protocol machine.
 fn put_ports(out: &mut String, plan: &Plan, bridge: u8, machine: &Rstp) -> Result<(), Memory>
     ensures { OnOk result (string_bytes out.new ≡ string_bytes out.old
         ++ flat_map (port_line plan.now bridge machine.now) machine.now.ports) }
@@ -89,7 +90,7 @@ fn put_ports(out: &mut String, plan: &Plan, bridge: u8, machine: &Rstp) -> Resul
     Ok(())
 }
 
-/// Puts the Root port behind a text, where there is one.
+/// Appends ` port N` for the Root port, if there is one.
 fn put_root_port(out: &mut String, roles: &[(u8, Role)]) -> Result<(), Memory>
     ensures { OnOk result (string_bytes out.new ≡ string_bytes out.old
         ++ root_port_words (first (λ p. is_root p.1) roles.now)) }
@@ -103,7 +104,7 @@ fn put_root_port(out: &mut String, roles: &[(u8, Role)]) -> Result<(), Memory>
     Ok(())
 }
 
-/// Puts the line of a bridge behind a text.
+/// Appends the line of a bridge: its root, its root path cost and its Root port.
 fn put_bridge(out: &mut String, plan: &Plan, bridge: u8, machine: &Rstp) -> Result<(), Memory>
     ensures { OnOk result (string_bytes out.new ≡ string_bytes out.old ++ bridge_line plan.now bridge machine.now) }
 {
@@ -118,7 +119,7 @@ fn put_bridge(out: &mut String, plan: &Plan, bridge: u8, machine: &Rstp) -> Resu
     Ok(())
 }
 
-/// Puts the lines of a bridge and its ports behind a text.
+/// Appends the lines of a bridge and its ports.
 fn put_tree(out: &mut String, plan: &Plan, bridge: u8, machine: &Rstp) -> Result<(), Memory>
     ensures { OnOk result (string_bytes out.new ≡ string_bytes out.old ++ bridge_lines plan.now bridge machine.now) }
 {
@@ -126,7 +127,7 @@ fn put_tree(out: &mut String, plan: &Plan, bridge: u8, machine: &Rstp) -> Result
     put_ports(out, plan, bridge, machine)
 }
 
-/// Puts the lines of all bridges behind a text.
+/// Appends the lines of all bridges, in the plan's order.
 pub(crate) fn put_protocol(out: &mut String, plan: &Plan, net: &Net) -> Result<(), Memory>
     requires sound { IsSound plan.now }
     requires plan { net.now.plan ≡ plan.now }

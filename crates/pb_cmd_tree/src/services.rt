@@ -1,4 +1,4 @@
-//! The trees of services.
+//! The trees of the services.
 
 ghost use Rattle.std.specs.Prelude.{◌≡◌, ◌<◌, ◌++◌, List, ℕ, length, string_bytes, OnOk};
 ghost use Rattle.pb_forest.specs.Paths.{depth_of};
@@ -11,7 +11,7 @@ use pb_lan::{Plan, Rooted, Shape};
 use pb_names::{bridge_name, link_name};
 use std::alloc::Global;
 
-/// The link from a bridge to its parent, if it has one.
+/// Returns the number of the link from a bridge to its parent, if it has one.
 fn up_at(rooted: &Rooted, bridge: u8) -> Option<u8>
     ensures { result ≡ up_at rooted.now bridge }
 {
@@ -24,7 +24,7 @@ fn up_at(rooted: &Rooted, bridge: u8) -> Option<u8>
     }
 }
 
-/// How many links lead up from a bridge to its root.
+/// Returns the number of links from a bridge up to its root.
 fn depth_at(rooted: &Rooted, bridge: u8) -> u8
     ensures { result ≡ depth_of rooted.now bridge }
 {
@@ -37,7 +37,7 @@ fn depth_at(rooted: &Rooted, bridge: u8) -> u8
     }
 }
 
-/// Puts the line of a bridge behind a text, where it is below a root.
+/// Appends the line of a bridge, if it is below a root.
 fn put_up(
     out: &mut String,
     plan: &Plan,
@@ -61,7 +61,7 @@ fn put_up(
     Ok(())
 }
 
-/// Puts the lines of a service's tree behind a text.
+/// Appends the lines of a service's tree, in the plan's order of bridges.
 fn put_ups(out: &mut String, plan: &Plan, service: &str, rooted: &Rooted) -> Result<(), Memory>
     requires { IsSound plan.now }
     ensures { OnOk result (string_bytes out.new ≡ string_bytes out.old ++ up_lines plan.now service.now rooted.now) }
@@ -72,7 +72,7 @@ fn put_ups(out: &mut String, plan: &Plan, service: &str, rooted: &Rooted) -> Res
     Ok(())
 }
 
-/// Puts the lines of a service behind a text: none where its active links close a ring.
+/// Appends the lines of a service, or nothing if its active links form a loop.
 fn put_service(
     alloc: Global,
     out: &mut String,
@@ -96,7 +96,7 @@ fn put_service(
     )
 }
 
-/// Puts the lines of all services behind a text.
+/// Appends the lines of all services, in the plan's order.
 pub(crate) fn put_services(
     alloc: Global,
     out: &mut String,

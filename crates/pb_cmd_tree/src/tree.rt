@@ -23,7 +23,7 @@ use pb_service::read_plan;
 use std::alloc::Global;
 use std::io::Write;
 
-/// Puts whether the last shape of a record is a forest for each service behind a text.
+/// Appends whether the shape at the end of a record is a forest for each service.
 fn put_last_forest(alloc: Global, out: &mut String, plan: &Plan, rec: &Record) -> Result<(), Memory>
     requires { IsSound plan.now }
     ensures { OnOk result ((text : List ℕ) × (string_bytes out.new ≡ string_bytes out.old ++ text)
@@ -33,7 +33,7 @@ fn put_last_forest(alloc: Global, out: &mut String, plan: &Plan, rec: &Record) -
     put_forest(alloc, out, plan, &shape)
 }
 
-/// Puts the trees behind a text, where the plan gives the states.
+/// Appends the trees of a plan that gives the states of the ports.
 fn put_planned(alloc: Global, out: &mut String, plan: &Plan, rec: &Record) -> Result<(), Memory>
     requires { IsSound plan.now }
     ensures { OnOk result ((text : List ℕ) × (string_bytes out.new ≡ string_bytes out.old ++ text)
@@ -45,7 +45,7 @@ fn put_planned(alloc: Global, out: &mut String, plan: &Plan, rec: &Record) -> Re
     put_services(alloc, out, plan, &shape)
 }
 
-/// Appends the trees of a network to a text.
+/// Appends the trees of a network, from the states at its end.
 fn put_trees(
     alloc: Global,
     out: &mut String,
@@ -69,7 +69,7 @@ fn put_trees(
     }
 }
 
-/// Lets the bridges of a network settle, and puts the trees behind a text.
+/// Drives a network to convergence, and appends its trees.
 fn put_rested(
     alloc: Global,
     out: &mut String,
@@ -86,8 +86,8 @@ fn put_rested(
     Ok(put_trees(alloc, out, plan, net, rest)?)
 }
 
-/// Appends the trees to a text, after the ends that `downs` names are disabled. Returns the index of the first of them
-/// that names no end.
+/// Disables the ports that `downs` names, and appends the trees. Returns the index of the first argument that names no
+/// end of a link; the text is unchanged then.
 fn put_trees_with_downs(
     alloc: Global,
     out: &mut String,
@@ -109,8 +109,8 @@ fn put_trees_with_downs(
     }
 }
 
-/// Prints the trees of a plan, after the ends that `downs` names are disabled. Returns the index of the first of them
-/// that names no end; nothing is printed then.
+/// Prints the trees of a plan, after it disables the ports that `downs` names. Returns the index of the first argument
+/// that names no end of a link; nothing is printed then.
 fn print_trees<W: Write>(
     alloc: Global,
     plan: &Plan,
@@ -132,21 +132,33 @@ fn print_trees<W: Write>(
     Ok(None)
 }
 
-/// Reads a plan file, sets ports to other bridges down, lets the bridges settle, and writes the trees.
+/// Reads a plan file, disables ports, drives the bridges to convergence, and prints the trees.
 ///
-/// Each of `downs` names a port to another bridge by `BRIDGE:PORT`, the bridge's name and its local port. That end of
-/// its link goes down, and its neighbour isn't told. Each bridge ticks at most `ticks` times. Where the bridges decide
-/// the states of their ports (IEEE 802.1D-2004 clause 17) there is a line `settled yes ticks N` or `settled no ticks
-/// N`; for each bridge a line `bridge NAME root NAME cost N`, and behind it ` port N` where it has a Root port; and
-/// for each port to another bridge `port BRIDGE N link NAME ROLE STATE cost N from BRIDGE`: its path cost, and the
-/// bridge that serves its link. Then, for the states at the end, `forest yes`, or `forest no` and `loop NAME` for each
-/// service whose active links close a ring. Where the plan gives the states, a bridge's line is `bridge NAME` and a
-/// port's `port BRIDGE N link NAME STATE`; and behind the forest stands for each other service and each bridge below a
-/// root of its tree `service NAME bridge NAME up LINK depth N`.
+/// Each of `downs` names a port to another bridge by `BRIDGE:PORT`: the name of the bridge and its local port. That
+/// end of its link is disabled; the bridge at the other end gets no sign of it. Each bridge takes at most `ticks` ticks
+/// (seconds).
 ///
-/// Of a file that is no plan the rule is written that it breaks, as `check` does. `Memory` is answered where memory ran
-/// out, `Steps` where a place was to take more steps than the plan allows; nothing was written then. `Write` is
-/// answered where a write failed, and then nothing is said of what was written. No other fault comes.
+/// If the bridges run the rapid spanning tree (IEEE 802.1D-2004 clause 17), the lines are
+///
+/// - `settled yes ticks N` or `settled no ticks N`;
+/// - for each bridge `bridge NAME root NAME cost N`, followed by ` port N` if it has a Root port, and then for each of
+///   its ports to another bridge `port BRIDGE N link NAME ROLE STATE cost N from BRIDGE`: the port's path cost, and the
+///   Designated bridge of its link;
+/// - for the states at the end `forest yes`, or `forest no` and a line `loop NAME` for each service whose active links
+///   form a loop.
+///
+/// If the plan gives the states, there is no line `settled`, a bridge's line is `bridge NAME`, and a port's is `port
+/// BRIDGE N link NAME STATE`. After the forest come lines `service NAME bridge NAME up LINK depth N`, one for each
+/// service without a loop and each bridge below a root of its tree.
+///
+/// If the file is not a valid plan, the line `plan: N WORD` is printed, as `check` prints it, and `Refused` is
+/// returned. This includes `plan: 11 memory`, if an allocation failed while the file was read.
+///
+/// # Errors
+///
+/// `Memory` if an allocation failed, and `Steps` if a place would take more steps than the plan allows or more than
+/// 1,000,000,000 events are due. Nothing was written then. `Write` if a write failed; what was written is unknown then.
+/// `Read` never comes.
 pub fn run_tree<W: Write>(
     alloc: Global,
     file: &[u8],

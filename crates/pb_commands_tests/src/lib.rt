@@ -1,4 +1,4 @@
-//! Runs of `check`, `show`, `init`, `step`, `trace` and `tree` with ample memory.
+//! The tests of `check`, `show`, `init`, `step`, `trace` and `tree`, with enough memory. Begin reading at `tests.rt`.
 #![tactic(auto)]
 
 #[cfg(test)]

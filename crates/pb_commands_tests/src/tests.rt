@@ -1,4 +1,4 @@
-//! Each command has a module: texts go in, and texts come out.
+//! A module for each command: files and lines go in, and their texts are compared.
 
 mod check;
 mod init;

@@ -1,11 +1,11 @@
--- The facts of marks, one behind the other.
+-- The facts of marks, one after the other.
 use Rattle.std.proofs.Common.{◌≡◌, ◌<◌, ◌+◌, ℕ, List, [], ◌∷◌, ◌++◌, map, drop, length, sym, ap}
 use Rattle.std.proofs.Common.{◌∙◌, append_assoc}
 use Rattle.std.proofs.lemmas.List.{map_push}
 use Rattle.pb_lan.specs.Numbering.{numbers_from}
 use Rattle.pb_names.proofs.TextLemmas.{numbers_step}
 
--- the facts so far, and those of the numbers from here on, are the facts of all
+-- the facts so far, then those of the numbers from here on, are the facts of all: one turn of the loops over marks
 pub marks_more : {X M F : Type 0} (facts : M → F) (f : ℕ → F) (xs : List X) (k : ℕ) (marks more : List M) (m : M)
     (all : List F) → k < length xs
     → more ≡ marks ++ m ∷ [] → facts m ≡ f (k + 1)

@@ -1,4 +1,4 @@
--- What a scene has of a network: each part of it once, in order.
+-- The parts of a scene: each part of the network once, in order.
 use Rattle.std.specs.Prelude.{◌≡◌, ℕ, map}
 use Rattle.std.specs.declared.option.Option.{Option}
 use Rattle.pb_lan.specs.Numbering.{numbers_from}

@@ -1,4 +1,4 @@
-//! What is drawn of each part of a plan's network.
+//! The facts that a picture shows of each part of a plan's network.
 
 ghost use Rattle.std.specs.Prelude.{◌≡◌};
 ghost use Rattle.pb_draw_layout.specs.Facts.{shade, service_tone, bridge_tone, link_tone, carries_some, is_active_link};
@@ -9,27 +9,27 @@ use pb_forest::{are_ends_forwarding, is_active, numbered, state_in, vid_numbered
 use pb_lan::{CustomerPlan, LinkPlan, Plan, PortState, Shape};
 use pb_names::service_at;
 
-/// How a part of the network stands out.
+/// The emphasis of a part of the network.
 #[derive(Clone, Copy, PartialEq, Eq, Debug)]
 pub enum Tone {
-    /// Like all: no service is asked for.
+    /// Normal: no service is highlighted.
     Plain,
-    /// It belongs to the service that is asked for.
+    /// Highlighted: the part belongs to the chosen service.
     Lit,
-    /// It doesn't.
+    /// Faint: the part does not belong to the chosen service.
     Faint,
 }
 
-/// What is drawn of a bridge.
+/// The facts of a bridge.
 #[derive(Clone, Copy, PartialEq, Eq, Debug)]
 pub struct BridgeFacts {
     /// Its number.
     pub number: u8,
-    /// Lit where a customer port or an active link of the service is at it.
+    /// Lit if a customer port or an active link of the chosen service is at the bridge.
     pub tone: Tone,
 }
 
-/// What is drawn of a link.
+/// The facts of a link.
 #[derive(Clone, Copy, PartialEq, Eq, Debug)]
 pub struct LinkFacts {
     /// Its number.
@@ -38,41 +38,41 @@ pub struct LinkFacts {
     pub a: PortState,
     /// The state of the port at its end `b`.
     pub b: PortState,
-    /// Whether both ends are Forwarding and members of one service at least. In a plan without services: whether both
+    /// Whether both ends are Forwarding and members of at least one service. In a plan without services: whether both
     /// are Forwarding.
     pub active: bool,
-    /// Lit where it is active for the service.
+    /// Lit if the link is active for the chosen service.
     pub tone: Tone,
 }
 
-/// What is drawn of a customer port.
+/// The facts of a customer port.
 #[derive(Clone, Copy, PartialEq, Eq, Debug)]
 pub struct PortFacts {
     /// Its number.
     pub number: u8,
     /// The number of its service.
     pub service: u8,
-    /// Lit where that is the service.
+    /// Lit if that is the chosen service.
     pub tone: Tone,
 }
 
-/// What is drawn of a service.
+/// The facts of a service.
 #[derive(Clone, Copy, PartialEq, Eq, Debug)]
 pub struct ServiceFacts {
     /// Its number.
     pub number: u8,
-    /// Lit where it is the service.
+    /// Lit if it is the chosen service.
     pub tone: Tone,
 }
 
-/// How a part stands out that belongs to the service that is asked for, or doesn't.
+/// Returns the tone of a part that belongs to the chosen service or doesn't.
 fn shade(belongs: bool) -> Tone
     ensures { result ≡ shade belongs }
 {
     if belongs { Tone::Lit } else { Tone::Faint }
 }
 
-/// How a service stands out.
+/// Returns the tone of a service.
 fn service_tone(chosen: Option<u8>, service: u8) -> Tone
     ensures { result ≡ service_tone chosen service }
 {
@@ -82,7 +82,7 @@ fn service_tone(chosen: Option<u8>, service: u8) -> Tone
     }
 }
 
-/// Whether a link is active for some service.
+/// Checks whether a link is active for some service.
 fn carries_some(plan: &Plan, shape: &Shape, link: &LinkPlan) -> bool
     ensures { result ≡ carries_some plan.now shape.now link.now }
 {
@@ -92,7 +92,7 @@ fn carries_some(plan: &Plan, shape: &Shape, link: &LinkPlan) -> bool
         .any(|service| is_active(plan, shape, service.vid, link))
 }
 
-/// Whether a link is active.
+/// Checks whether a link is active. In a plan without services it is, if both its ends are Forwarding.
 fn is_active_link(plan: &Plan, shape: &Shape, link: &LinkPlan) -> bool
     ensures { result ≡ is_active_link plan.now shape.now link.now }
 {
@@ -103,7 +103,7 @@ fn is_active_link(plan: &Plan, shape: &Shape, link: &LinkPlan) -> bool
     }
 }
 
-/// Whether a link is at a bridge and active for a service.
+/// Checks whether a link is at a bridge and active for a service.
 fn is_link_of(plan: &Plan, shape: &Shape, service: u8, bridge: u8, link: &LinkPlan) -> bool
     ensures { result ≡ is_link_of plan.now shape.now service bridge link.now }
 {
@@ -111,14 +111,14 @@ fn is_link_of(plan: &Plan, shape: &Shape, service: u8, bridge: u8, link: &LinkPl
         && is_active(plan, shape, vid_numbered(plan, service), link)
 }
 
-/// Whether a customer port is at a bridge and of a service.
+/// Checks whether a customer port is at a bridge and of a service.
 fn is_port_of(service: u8, bridge: u8, customer: &CustomerPlan) -> bool
     ensures { result ≡ is_port_of service bridge customer.now }
 {
     customer.bridge == bridge && customer.service == service
 }
 
-/// Whether a customer port of a service is at a bridge.
+/// Checks whether a customer port of a service is at a bridge.
 fn has_port(plan: &Plan, service: u8, bridge: u8) -> bool
     ensures { result ≡ has_port plan.now service bridge }
 {
@@ -128,7 +128,7 @@ fn has_port(plan: &Plan, service: u8, bridge: u8) -> bool
         .any(|customer| is_port_of(service, bridge, customer))
 }
 
-/// Whether an active link of a service is at a bridge.
+/// Checks whether an active link of a service is at a bridge.
 fn has_link(plan: &Plan, shape: &Shape, service: u8, bridge: u8) -> bool
     ensures { result ≡ has_link plan.now shape.now service bridge }
 {
@@ -138,14 +138,14 @@ fn has_link(plan: &Plan, shape: &Shape, service: u8, bridge: u8) -> bool
         .any(|link| is_link_of(plan, shape, service, bridge, link))
 }
 
-/// Whether a customer port or an active link of a service is at a bridge.
+/// Checks whether a customer port or an active link of a service is at a bridge.
 fn is_in_tree(plan: &Plan, shape: &Shape, service: u8, bridge: u8) -> bool
     ensures { result ≡ is_in_tree plan.now shape.now service bridge }
 {
     has_port(plan, service, bridge) || has_link(plan, shape, service, bridge)
 }
 
-/// How a bridge stands out.
+/// Returns the tone of a bridge.
 fn bridge_tone(plan: &Plan, shape: &Shape, chosen: Option<u8>, bridge: u8) -> Tone
     ensures { result ≡ bridge_tone plan.now shape.now chosen bridge }
 {
@@ -155,7 +155,7 @@ fn bridge_tone(plan: &Plan, shape: &Shape, chosen: Option<u8>, bridge: u8) -> To
     }
 }
 
-/// How a link stands out.
+/// Returns the tone of a link.
 fn link_tone(plan: &Plan, shape: &Shape, chosen: Option<u8>, link: &LinkPlan) -> Tone
     ensures { result ≡ link_tone plan.now shape.now chosen link.now }
 {
@@ -165,7 +165,7 @@ fn link_tone(plan: &Plan, shape: &Shape, chosen: Option<u8>, link: &LinkPlan) ->
     }
 }
 
-/// What is drawn of the bridge of a number.
+/// Returns the facts of the bridge with a number.
 pub(crate) fn bridge_facts(
     plan: &Plan,
     shape: &Shape,
@@ -180,7 +180,7 @@ pub(crate) fn bridge_facts(
     }
 }
 
-/// What is drawn of a link.
+/// Returns the facts of a link of the plan.
 fn known_facts(
     plan: &Plan,
     shape: &Shape,
@@ -199,7 +199,7 @@ fn known_facts(
     }
 }
 
-/// What is drawn of the link of a number.
+/// Returns the facts of the link with a number. A link that the plan lacks is idle, with Discarding ends.
 pub(crate) fn link_facts(plan: &Plan, shape: &Shape, chosen: Option<u8>, number: u8) -> LinkFacts
     ensures { result ≡ link_facts plan.now shape.now chosen number }
 {
@@ -215,7 +215,7 @@ pub(crate) fn link_facts(plan: &Plan, shape: &Shape, chosen: Option<u8>, number:
     }
 }
 
-/// What is drawn of the customer port of a number.
+/// Returns the facts of the customer port with a number.
 pub(crate) fn port_facts(plan: &Plan, chosen: Option<u8>, number: u8) -> PortFacts
     ensures { result ≡ port_facts plan.now chosen number }
 {
@@ -227,7 +227,7 @@ pub(crate) fn port_facts(plan: &Plan, chosen: Option<u8>, number: u8) -> PortFac
     }
 }
 
-/// What is drawn of the service of a number.
+/// Returns the facts of the service with a number.
 pub(crate) fn service_facts(chosen: Option<u8>, number: u8) -> ServiceFacts
     ensures { result ≡ service_facts chosen number }
 {

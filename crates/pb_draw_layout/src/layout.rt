@@ -1,4 +1,4 @@
-//! Where the parts of a network are drawn.
+//! The positions of the parts of a network. All lengths are in pixels.
 
 mod columns;
 mod levels;
@@ -18,36 +18,37 @@ use slots::is_long;
 use std::alloc::Global;
 use tracks::{LANE, Stretch, stretches};
 
-/// How far down in its bridge's box the first customer port stands.
+/// The distance of the first customer port's baseline from the upper edge of its bridge's box.
 const FIRST_PORT: u32 = 43;
 
-/// How far from the left edge of the box the lines of ports begin.
+/// The distance of the lines of ports from the left edge of the box.
 const INDENT: u32 = 12;
 
-/// From one line of the legend to the next.
+/// The distance from one line of the legend to the next.
 const LEGEND_LINE: u32 = 20;
 
-/// Free room above the legend.
+/// The distance from the network to the legend.
 const ABOVE_LEGEND: u32 = 28;
 
-/// What stands in the legend besides the name of a service.
+/// The width of an entry of the legend besides the name of its service.
 const LEGEND_BESIDES: u32 = 104;
 
-/// What a picture is wide at least.
+/// The least width of a picture.
 const LEAST_WIDTH: u32 = 240;
 
-/// Where the parts of a plan's network are drawn.
+/// The positions of the parts of a plan's network.
 #[derive(Drop)]
 pub(crate) struct Layout {
     columns: Columns,
     rows: Rows,
     stretches: Vec<Stretch>,
-    /// The width of the picture, and that of an entry of the legend.
+    /// The width of the picture.
     width: u32,
+    /// The width of an entry of the legend.
     entry: u32,
 }
 
-/// The width of an entry of the legend.
+/// Returns the width of an entry of the legend.
 fn entry_width(plan: &Plan) -> u32 {
     let mut widest = 0u32;
     for service in plan.services.as_slice() {
@@ -56,7 +57,7 @@ fn entry_width(plan: &Plan) -> u32 {
     widest.saturating_add(LEGEND_BESIDES)
 }
 
-/// The width of the picture.
+/// Returns the width of the picture.
 fn picture_width(plan: &Plan, columns: &Columns, entry: u32) -> u32 {
     let mut lanes = 0u32;
     for link in plan.links.as_slice() {
@@ -71,7 +72,7 @@ fn picture_width(plan: &Plan, columns: &Columns, entry: u32) -> u32 {
         .max(LEAST_WIDTH)
 }
 
-/// Where the parts of a plan's network are drawn, with the ports in these states.
+/// Computes the positions of the parts of a plan's network, with the ports in these states.
 pub(crate) fn layout_of(alloc: Global, plan: &Plan, shape: &Shape) -> Result<Layout, Memory> {
     let columns = columns_of(plan, shape);
     let stretches = stretches(alloc, &columns, plan)?;
@@ -87,7 +88,7 @@ pub(crate) fn layout_of(alloc: Global, plan: &Plan, shape: &Shape) -> Result<Lay
 }
 
 impl Layout {
-    /// The upper left corner of a bridge's box.
+    /// Returns the upper left corner of a bridge's box.
     pub(crate) fn corner(&self, bridge: u8) -> Point {
         let level = self.columns.levels.at(bridge as u32);
         Point {
@@ -96,7 +97,7 @@ impl Layout {
         }
     }
 
-    /// The width and the height of a bridge's box.
+    /// Returns the width and the height of a bridge's box.
     pub(crate) fn box_size(&self, bridge: u8) -> Point {
         let level = self.columns.levels.at(bridge as u32);
         Point {
@@ -105,7 +106,7 @@ impl Layout {
         }
     }
 
-    /// Where the line of a customer port begins, in its bridge's box.
+    /// Returns the start of a customer port's line, in its bridge's box.
     pub(crate) fn port_corner(&self, plan: &Plan, number: u8) -> Point {
         let Some(port) = numbered(plan.customers.as_slice(), number as usize) else {
             return Point { x: 0, y: 0 };
@@ -123,7 +124,7 @@ impl Layout {
         }
     }
 
-    /// How many services stand in a line of the legend.
+    /// Returns how many services a line of the legend holds, at least 1.
     fn entries_in_line(&self) -> u32 {
         let room = self.width.saturating_sub(MARGIN);
         if self.entry == 0 {
@@ -133,7 +134,7 @@ impl Layout {
         }
     }
 
-    /// Where the line of a service begins in the legend.
+    /// Returns the start of a service's line in the legend.
     pub(crate) fn service_corner(&self, number: u8) -> Point {
         let entries = self.entries_in_line();
         let place = (number as u32).saturating_sub(1);
@@ -149,7 +150,7 @@ impl Layout {
         }
     }
 
-    /// The width and the height of the picture.
+    /// Returns the width and the height of the picture.
     pub(crate) fn size(&self, plan: &Plan) -> Point {
         let last = self.service_corner(plan.services.len().min(64) as u8);
         Point {

@@ -1,5 +1,6 @@
-//! What is drawn of a plan's network, and where: each bridge, link, customer port and service once, with its state, and
-//! a layout by levels.
+//! What a picture shows of a plan's network, and where: each bridge, link, customer port and service once, with its
+//! state, in a layout by levels of the spanning tree. It builds on pb_forest (active links) and pb_names.
+//! Begin reading at `scene.rt`, then `marks.rt`, [`scene_of`], and `layout.rt`.
 #![tactic(auto)]
 
 mod facts;

@@ -13,7 +13,7 @@ use pb_frame::{Memory, Seq};
 use pb_lan::{Plan, Shape};
 use std::alloc::Global;
 
-/// The bridges.
+/// Returns the marks of the bridges.
 fn bridge_marks(
     alloc: Global,
     plan: &Plan,
@@ -37,7 +37,7 @@ fn bridge_marks(
     Ok(Seq::from_vec(marks))
 }
 
-/// The links.
+/// Returns the marks of the links.
 fn link_marks(
     alloc: Global,
     plan: &Plan,
@@ -60,7 +60,7 @@ fn link_marks(
     Ok(Seq::from_vec(marks))
 }
 
-/// The customer ports.
+/// Returns the marks of the customer ports.
 fn port_marks(
     alloc: Global,
     plan: &Plan,
@@ -82,7 +82,7 @@ fn port_marks(
     Ok(Seq::from_vec(marks))
 }
 
-/// The services.
+/// Returns the marks of the services.
 fn service_marks(
     alloc: Global,
     plan: &Plan,
@@ -104,16 +104,20 @@ fn service_marks(
     Ok(Seq::from_vec(marks))
 }
 
-/// The scene of a sound plan's network, with the ports in these states.
+/// Returns the scene of a sound plan's network, with the ports in these states.
 ///
-/// Each bridge, link, customer port and service of the plan stands there once, in the plan's order. A link is active
-/// where both its ends are Forwarding and members of one service at least (802.1D-2004 clause 7.4, 802.1Q clause 8.8).
-/// Where a service is chosen by its number, its customer ports, its active links and the bridges at these are lit, and
-/// all else is faint. Bridges stand by levels: how many links lead up to the root of their tree. The root is the bridge
-/// with the lowest identifier where the bridges decide the states (802.1D-2004 clause 9.2.5), and that with the lowest
-/// number where the plan gives them. No two boxes, and no two names of links, stand in one place; no contract says so.
+/// The scene has each bridge, link, customer port and service of the plan once, in the plan's order. A link is active
+/// if both its ends are Forwarding and members of at least one service (IEEE 802.1D-2004 clause 7.4, IEEE 802.1Q clause
+/// 8.8), or, in a plan without services, if both its ends are Forwarding. If `chosen` is a service's number, its
+/// customer ports, its active links and the bridges at these are lit, and all else is faint.
 ///
-/// `Memory` is answered where there was none for the scene, and nothing else is refused.
+/// The level of a bridge is the number of links up to the root of its tree. The root is the bridge with the lowest
+/// identifier if the bridges run the protocol (IEEE 802.1D-2004 clause 9.2.5), and the one with the lowest number if
+/// the plan gives the states. No two boxes and no two names of links overlap; no contract covers the positions.
+///
+/// # Errors
+///
+/// `Memory` if an allocation failed.
 pub fn scene_of(
     alloc: Global,
     plan: &Plan,

@@ -1,44 +1,44 @@
-//! What is drawn, and where.
+//! The parts of a picture, with their positions.
 
 use crate::facts::{BridgeFacts, LinkFacts, PortFacts, ServiceFacts};
 use pb_frame::Seq;
 
-/// A place in a picture, in pixels from its left and upper edge.
+/// A point of a picture, in pixels.
 #[derive(Clone, Copy, PartialEq, Eq, Debug)]
 pub struct Point {
-    /// From the left edge.
+    /// The distance from the left edge.
     pub x: u32,
-    /// From the upper edge.
+    /// The distance from the upper edge.
     pub y: u32,
 }
 
-/// Where a link passes levels at which it doesn't end: straight down, right of all bridges.
+/// The vertical part of a link that passes levels, right of all bridges.
 #[derive(Clone, Copy, PartialEq, Eq, Debug)]
 pub struct Lane {
-    /// From the left edge.
+    /// Its distance from the left edge.
     pub x: u32,
-    /// How far down it bends on the way to its end `b`.
+    /// The vertical position of the bend on the way to end `b`.
     pub bend: u32,
-    /// Where it comes from `a`, and where it leaves for `b`.
+    /// The vertical position of its end toward `a`.
     pub from_a: u32,
-    /// See `from_a`.
+    /// The vertical position of its end toward `b`.
     pub to_b: u32,
 }
 
-/// How a link runs.
+/// The route of a link.
 #[derive(Clone, Copy, PartialEq, Eq, Debug)]
 pub struct Route {
-    /// Where it ends at its bridge `a`.
+    /// The point at which it meets the box of its bridge `a`.
     pub a: Point,
-    /// Where it ends at its bridge `b`.
+    /// The point at which it meets the box of its bridge `b`.
     pub b: Point,
-    /// How far down it bends; with a lane, on the way from `a`.
+    /// The vertical position of its bend; with a lane, of the bend on the way from `a`.
     pub bend: u32,
-    /// Where it passes levels, if it does.
+    /// Its lane, if it passes levels.
     pub lane: Option<Lane>,
     /// The middle of its name.
     pub label: Point,
-    /// Half of the width of its name.
+    /// Half the width of its name.
     pub label_half: u32,
     /// The middle of the number of its port at `a`.
     pub a_port: Point,
@@ -49,7 +49,7 @@ pub struct Route {
 /// A bridge in a picture.
 #[derive(Clone, Copy, PartialEq, Eq, Debug)]
 pub struct BridgeMark {
-    /// What is drawn.
+    /// What it shows.
     pub facts: BridgeFacts,
     /// The upper left corner of its box.
     pub corner: Point,
@@ -60,31 +60,31 @@ pub struct BridgeMark {
 /// A link in a picture.
 #[derive(Clone, Copy, PartialEq, Eq, Debug)]
 pub struct LinkMark {
-    /// What is drawn.
+    /// What it shows.
     pub facts: LinkFacts,
-    /// How it runs.
+    /// Its route.
     pub route: Route,
 }
 
 /// A customer port in a picture.
 #[derive(Clone, Copy, PartialEq, Eq, Debug)]
 pub struct PortMark {
-    /// What is drawn.
+    /// What it shows.
     pub facts: PortFacts,
-    /// Where its line begins.
+    /// The start of its line.
     pub corner: Point,
 }
 
 /// A service in a picture's legend.
 #[derive(Clone, Copy, PartialEq, Eq, Debug)]
 pub struct ServiceMark {
-    /// What is drawn.
+    /// What it shows.
     pub facts: ServiceFacts,
-    /// Where its line begins.
+    /// The start of its line.
     pub corner: Point,
 }
 
-/// What is drawn of a network, and where.
+/// The parts of a picture, with their positions.
 #[derive(PartialEq, Debug, Drop)]
 pub struct Scene {
     /// The bridges, in the plan's order.
@@ -95,7 +95,7 @@ pub struct Scene {
     pub ports: Seq<PortMark>,
     /// The services, in the plan's order.
     pub services: Seq<ServiceMark>,
-    /// The number of the service that stands out, if one does.
+    /// The number of the highlighted service, if there is one.
     pub chosen: Option<u8>,
     /// The width and the height of the picture.
     pub size: Point,

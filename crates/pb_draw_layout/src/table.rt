@@ -1,6 +1,6 @@
 //! A number for each bridge, or for each level.
 
-/// How many entries a table has: for bridges 1 to 32, or levels 0 to 32.
+/// The number of entries of a table: for bridges 1 to 32, or levels 0 to 32.
 const ENTRIES: usize = 33;
 
 /// A number for each bridge by its number, or for each level.
@@ -10,14 +10,14 @@ pub(crate) struct Table {
 }
 
 impl Table {
-    /// A table with one number everywhere.
+    /// Returns a table with one number everywhere.
     pub(crate) fn filled(value: u32) -> Table {
         Table {
             entries: [value; 33],
         }
     }
 
-    /// The number at an index; 0 beyond the last.
+    /// Returns the number at an index, or 0 beyond the last.
     pub(crate) fn at(&self, index: u32) -> u32 {
         let index = index as usize;
         if index < ENTRIES {
@@ -35,14 +35,14 @@ impl Table {
         }
     }
 
-    /// Sets the number at an index to a greater one.
+    /// Sets the number at an index, if the new one is greater.
     pub(crate) fn raise(&mut self, index: u32, value: u32) {
         if self.at(index) < value {
             self.set(index, value);
         }
     }
 
-    /// The greatest number.
+    /// Returns the greatest number.
     pub(crate) fn greatest(&self) -> u32 {
         let mut greatest = 0;
         for entry in &self.entries {
@@ -52,7 +52,7 @@ impl Table {
     }
 }
 
-/// The number of the part at a place of a list, counted from 1. A sound plan has at most 128 parts in a list.
+/// Returns the number of the part at an index of a list, from 1. A sound plan has at most 128 parts in a list.
 pub(crate) fn number_at(place: usize) -> u32 {
     place.min(255) as u32 + 1
 }

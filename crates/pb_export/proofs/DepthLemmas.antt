@@ -1,4 +1,4 @@
--- No document nests deep.
+-- The depth of a document. JSON is read back if it nests at most 127 deep.
 use Rattle.std.proofs.Common.{ℕ, ◌≤◌, List, [], ◌∷◌, ◌++◌, map, Bool, true, false, if◌then◌else◌, Option, Some, None}
 use Rattle.std.proofs.Common.{unwrap_or, Vec, Global, Bor, Ordering, Less, Equal, Greater, nat_cmp, arith}
 use Rattle.std.specs.Cmp.Lexicographic.{slice_cmp}
@@ -21,7 +21,7 @@ use Rattle.pb_export.specs.declared.rows.Field.TheVariants.{Text, Number, Depth,
 use Rattle.pb_export.specs.declared.rows.Filled.{Filled}
 use Rattle.pb_export.specs.declared.rows.Row.{Row}
 
--- no deeper than n
+-- no value is deeper than n
 AreShallow : ℕ → List Data → Type 0
 AreShallow n [] = Unit {0}
 AreShallow n (d ∷ ds) = (depth d ≤ n) × AreShallow n ds
@@ -53,7 +53,7 @@ shallow-none : (n : ℕ) → AreShallow n []
 unfolding AreShallow
 shallow-none n = tt
 
--- what stands in slots
+-- the values of slots
 shallow-words : (words : List (Bor (List ℕ))) → AreShallow 0 (map (λ w. string w.now) words)
 unfolding AreShallow
 shallow-words [] = tt
@@ -213,7 +213,7 @@ members_depth-top (row ∷ rows) ms m =
     (members_depth-if (is_at [] row) (with_fields row.fields.items ms) ms (members_depth-fields row.fields.items ms m)
     m)
 
--- a document nests no deeper than seven
+-- a document nests at most seven deep, for the contract of json_of
 pub depth-document : (form : Form) (rows : List Row) → depth (document_of form rows) ≤ 7
 depth-document form rows =
     let top = members_depth-top rows no_members (omega arith) in

@@ -6,7 +6,7 @@ use Rattle.pb_export.specs.Rows.{Fits, IsFilled, AreFilled}
 use Rattle.pb_export.specs.declared.templates.Slot.{Slot}
 use Rattle.pb_export.specs.declared.rows.Filled.{Filled}
 
--- one more slot is filled
+-- one more filled slot, for the loop of fields_of
 pub filled_more : (slots : List Slot) (fields new : List Filled) (i : ℕ) (d : Slot) (f : Filled) → i < length slots
     → AreFilled (take i slots) fields
     → IsFilled (get_or slots i d) f → new ≡ fields ++ f ∷ [] → AreFilled (take (i + 1) slots) new

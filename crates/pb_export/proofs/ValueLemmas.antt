@@ -7,7 +7,7 @@ use Rattle.serde_json.specs.Data.{Data}
 use Rattle.serde_json.specs.View.{view}
 use Rattle.serde_json.specs.declared.value.Value.{Value}
 
--- one more of them
+-- one more value, for the loops of values.rt
 pub values_more : {X : Type 0} (f : X → Data) (xs : List X) (i : ℕ) (d : X) (old new : List Value) (v : Value)
     → i < length xs → view v ≡ f (get_or xs i d)
     → new ≡ old ++ v ∷ [] → map view old ++ map f (drop i xs) ≡ map f xs
@@ -19,7 +19,7 @@ values_more {X} f xs i d old new v below is grown before =
     ap (λ (z : List Data). z ++ later) (map_push view old v) ∙ append_assoc (map view old) (view v ∷ []) later
     ∙ ap (λ (z : List Data). map view old ++ z) (ap (λ (z : Data). z ∷ later) is ∙ sym step) ∙ before)
 
--- all of them
+-- all values
 pub values_end : {X : Type 0} (f : X → Data) (xs : List X) (i : ℕ) (values : List Value) → length xs ≤ i
     → map view values ++ map f (drop i xs) ≡ map f xs → map view values ≡ map f xs
 values_end f xs i values past before =

@@ -1,4 +1,4 @@
--- What was read of a line, and the text that it gives back.
+-- The rows of a report, and the text that they give back.
 use Rattle.std.specs.Prelude.{Vec, ◌≡◌, ℕ, zero, suc, List, [], ◌∷◌, ◌++◌, map, flat_map, codes, Contains, All, ⊤}
 use Rattle.std.specs.Fmt.{decimal}
 use Rattle.std.specs.declared.alloc.Global.{Global}
@@ -12,23 +12,24 @@ use Rattle.pb_export.specs.declared.rows.Field.TheVariants.{Text, Number, Depth,
 use Rattle.pb_export.specs.declared.rows.Filled.{Filled}
 use Rattle.pb_export.specs.declared.rows.Row.{Row}
 
--- so many times two spaces
+-- so many pairs of spaces
 abbrev pub spaces : ℕ → List ℕ
 spaces zero = []
 spaces (suc n) = 32 ∷ 32 ∷ spaces n
 
--- words, each behind a space; so numbers
+-- words, each after a space
 abbrev pub words_text : List (Bor (List ℕ)) → List ℕ
 words_text words = flat_map (λ w. 32 ∷ w.now) words
 
+-- numbers, each after a space
 abbrev pub numbers_text : List ℕ → List ℕ
 numbers_text numbers = flat_map (λ n. 32 ∷ decimal n) numbers
 
--- groups of words, with a bar behind each
+-- groups of words, each followed by a bar
 abbrev pub groups_text : List (Vec (Bor (List ℕ)) Global) → List ℕ
 groups_text groups = flat_map (λ g. words_text g.items ++ codes " |") groups
 
--- the text of what stands in a slot
+-- the text of a slot's value
 abbrev pub field_text : Field → List ℕ
 field_text (Text t) = t.now
 field_text (Number n) = decimal n
@@ -38,21 +39,23 @@ field_text (Numbers v) = numbers_text v.items
 field_text (Groups v last) = groups_text v.items ++ words_text last.items
 field_text (Chosen choice) = choice.text.now
 
--- that of a slot, with the fixed text behind it
+-- the text of a slot, with the fixed text after it
 abbrev pub filled_text : Filled → List ℕ
 filled_text f = field_text f.field ++ f.slot.until.now
 
+-- the text of several slots
 abbrev pub fields_text : List Filled → List ℕ
 fields_text fields = flat_map filled_text fields
 
--- the line that a row gives back, and the text of several
+-- the line that a row gives back
 abbrev pub row_text : Row → List ℕ
 row_text row = row.template.lead.now ++ fields_text row.fields.items
 
+-- the report that several rows give back
 abbrev pub report_text : List Row → List ℕ
 report_text rows = flat_map (λ row. row_text row ++ 10 ∷ []) rows
 
--- a slot of this kind may hold that
+-- a slot of this kind may hold the value
 abbrev pub Fits : Kind → Field → Type 0
 Fits kind.Text (Text t) = ⊤
 Fits kind.Number (Number n) = ⊤
@@ -63,12 +66,12 @@ Fits kind.Groups (Groups v last) = ⊤
 Fits (kind.OneOf choices) (Chosen choice) = Contains choices.now choice
 Fits _ _ = ⊥
 
--- the slot holds what it may
+-- the slot holds a value of its kind
 pub record IsFilled (slot : Slot) (f : Filled) : Type 0 where
   pub slot_is : f.slot ≡ slot
   pub fits : Fits slot.kind f.field
 
--- each slot of a template holds what it may
+-- each slot of a template holds a value of its kind
 pub record AreFilled (slots : List Slot) (fields : List Filled) : Type 0 where
   pub slots_are : map (λ f. f.slot) fields ≡ slots
   pub fit : All (λ f. Fits f.slot.kind f.field) fields
@@ -79,7 +82,7 @@ pub record IsRow (template : Template) (line : List ℕ) (row : Row) : Type 0 wh
   pub filled : AreFilled template.slots.now row.fields.items
   pub text_is : line ≡ row_text row
 
--- the row has one of these templates, whose slots are filled
+-- the row has one of these templates, and each slot holds a value of its kind
 pub record IsRowOf (templates : List Template) (row : Row) : Type 0 where
   pub template_is : Contains templates row.template
   pub filled : AreFilled row.template.slots.now row.fields.items

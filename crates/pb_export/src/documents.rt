@@ -1,4 +1,4 @@
-//! The document of a report.
+//! The JSON document of a report.
 
 ghost use Rattle.std.specs.Prelude.{◌≡◌, [], map, option_map, IfOk, OnOk};
 ghost use Rattle.std.specs.List.{list_any};
@@ -14,7 +14,7 @@ use crate::values::field_value;
 use serde_json::{Map, Value, put};
 use std::alloc::{AllocError, Global};
 
-/// Puts a member to others, where there is something to say.
+/// Puts a member into a map, if there is a value.
 fn put_value(
     alloc: Global,
     map: &mut Map<String, Value>,
@@ -30,7 +30,7 @@ fn put_value(
     }
 }
 
-/// Puts what slots hold to a document, each under its key.
+/// Puts the values of slots into a map, each under its key.
 fn put_fields(
     alloc: Global,
     map: &mut Map<String, Value>,
@@ -45,7 +45,7 @@ fn put_fields(
     Ok(())
 }
 
-/// What a row says, as an object.
+/// Returns a row as an object.
 fn row_value(alloc: Global, row: &Row<'_>) -> Result<Value, AllocError>
     ensures { IfOk result (λ v. view v ≡ row_data row.now) }
 {
@@ -54,14 +54,14 @@ fn row_value(alloc: Global, row: &Row<'_>) -> Result<Value, AllocError>
     Ok(Value::Object(map))
 }
 
-/// Whether a row stands in the list of a key.
+/// Checks whether a row belongs to the list of a key.
 pub(crate) fn is_at(key: &str, row: &Row<'_>) -> bool
     ensures { result ≡ is_at key.now row.now }
 {
     row.template.home == key
 }
 
-/// Whether a row stands in one of some lists.
+/// Checks whether a row belongs to one of several lists.
 fn is_in(keys: &[&str], row: &Row<'_>) -> bool
     ensures { result ≡ is_in keys.now row.now }
 {
@@ -73,7 +73,7 @@ fn is_in(keys: &[&str], row: &Row<'_>) -> bool
     false
 }
 
-/// The list inside an object, of the rows behind the object's own.
+/// Returns a list inside an object, from the rows after the object's own.
 fn inner_value(
     alloc: Global,
     key: &str,
@@ -94,7 +94,7 @@ fn inner_value(
     Ok(Value::Array(items))
 }
 
-/// Puts the lists inside an object, of the rows behind the object's own.
+/// Puts the lists inside an object into its map, from the rows after the object's own.
 fn put_inner(
     alloc: Global,
     map: &mut Map<String, Value>,
@@ -111,7 +111,7 @@ fn put_inner(
     Ok(())
 }
 
-/// What a row of a list says, as an object with the lists inside it.
+/// Returns a row of a list as an object, with the lists inside it.
 fn item_value(
     alloc: Global,
     list: &ListForm,
@@ -126,7 +126,7 @@ fn item_value(
     Ok(Value::Object(map))
 }
 
-/// An object for each row of a list.
+/// Returns an object for each row of a list.
 fn object_values(alloc: Global, list: &ListForm, rows: &[Row<'_>]) -> Result<Vec<Value>, AllocError>
     ensures { IfOk result (λ values. map view values.items ≡ objects_of list.now rows.now) }
 {
@@ -139,7 +139,7 @@ fn object_values(alloc: Global, list: &ListForm, rows: &[Row<'_>]) -> Result<Vec
     Ok(items)
 }
 
-/// The object of the first row of a list, where there is one.
+/// Returns the object of the first row of a list, if there is one.
 fn single_value(
     alloc: Global,
     list: &ListForm,
@@ -155,7 +155,7 @@ fn single_value(
     Ok(None)
 }
 
-/// What the first slot holds, of those of a row.
+/// Returns the value of a row's first slot, or null if it has none.
 fn first_value(alloc: Global, fields: &[Filled<'_>]) -> Result<Value, AllocError>
     ensures { IfOk result (λ v. view v ≡ first_data fields.now) }
 {
@@ -168,7 +168,7 @@ fn first_value(alloc: Global, fields: &[Filled<'_>]) -> Result<Value, AllocError
     }
 }
 
-/// What the first slot of each row of a list holds.
+/// Returns the value of the first slot of each row of a list.
 fn first_values(alloc: Global, key: &str, rows: &[Row<'_>]) -> Result<Vec<Value>, AllocError>
     ensures { IfOk result (λ values. map view values.items ≡ values_of key.now rows.now) }
 {
@@ -181,7 +181,7 @@ fn first_values(alloc: Global, key: &str, rows: &[Row<'_>]) -> Result<Vec<Value>
     Ok(items)
 }
 
-/// The array of some values, where there is one.
+/// Returns an array of values, if there are any.
 fn some_values(values: Vec<Value>) -> Option<Value>
     ensures { option_map view result ≡ some_list (map view values.items) }
 {
@@ -192,7 +192,7 @@ fn some_values(values: Vec<Value>) -> Option<Value>
     }
 }
 
-/// What a document has at the key of a list. None where the key is left out.
+/// Returns the document's value at the key of a list, or `None` if the key is left out.
 fn list_value(alloc: Global, list: &ListForm, rows: &[Row<'_>]) -> Result<Option<Value>, AllocError>
     ensures { IfOk result (λ o. option_map view o ≡ list_entry list.now.shape list.now rows.now) }
 {
@@ -204,7 +204,7 @@ fn list_value(alloc: Global, list: &ListForm, rows: &[Row<'_>]) -> Result<Option
     }
 }
 
-/// Puts what rows say that stand in no list to a document.
+/// Puts the values of the rows that belong to no list into a document.
 fn put_top(alloc: Global, map: &mut Map<String, Value>, rows: &[Row<'_>]) -> Result<(), AllocError>
     ensures { OnOk result (members_view map.new.entries ≡ with_top rows.now (members_view map.old.entries)) }
 {
@@ -216,7 +216,7 @@ fn put_top(alloc: Global, map: &mut Map<String, Value>, rows: &[Row<'_>]) -> Res
     Ok(())
 }
 
-/// Puts the lists of a document.
+/// Puts the lists into a document.
 fn put_lists(
     alloc: Global,
     map: &mut Map<String, Value>,
@@ -233,7 +233,7 @@ fn put_lists(
     Ok(())
 }
 
-/// The document of a report's rows. `AllocError` is answered where memory ran out.
+/// Returns the document of a report's rows. `AllocError` comes if an allocation failed.
 pub(crate) fn document(alloc: Global, form: &Form, rows: &[Row<'_>]) -> Result<Value, AllocError>
     ensures { IfOk result (λ v. view v ≡ document_of form.now rows.now) }
 {

@@ -1,4 +1,4 @@
-//! Why a report was not written as a document.
+//! The faults of an export.
 
 ghost use Rattle.std.specs.Prelude.{◌≡◌};
 ghost use Rattle.pb_export.specs.declared.faults.FormatFault.TheVariants.{Memory as memory_fault};
@@ -6,13 +6,14 @@ ghost use Rattle.pb_export.specs.declared.faults.FormatFault.TheVariants.{Memory
 use std::alloc::{AllocError, AllocFailed};
 use thiserror::Error;
 
-/// Why a report was not written as a document.
+/// Why a report can't be written as JSON or CSV.
 #[derive(Clone, Copy, Debug, PartialEq, Eq, Error)]
 pub enum FormatFault {
-    /// The text is no report of the form: it is not UTF-8, its last line has no end, or a line has none of the forms.
+    /// The text is not a report of the form: it is not UTF-8, its last line has no end, or a line fits none of the
+    /// templates.
     #[error("format")]
     Unread,
-    /// Memory ran out.
+    /// An allocation failed.
     #[error("memory")]
     Memory,
 }
@@ -20,6 +21,7 @@ pub enum FormatFault {
 impl From<AllocError> for FormatFault {
     ghost from_gives = { λ _ e. e ≡ memory_fault };
 
+    /// Returns `Memory`.
     fn from(_e: AllocError) -> FormatFault {
         FormatFault::Memory
     }
@@ -28,6 +30,7 @@ impl From<AllocError> for FormatFault {
 impl<T: Drop> From<AllocFailed<T>> for FormatFault {
     ghost from_gives = { λ _ e. e ≡ memory_fault };
 
+    /// Returns `Memory`.
     fn from(_e: AllocFailed<T>) -> FormatFault {
         FormatFault::Memory
     }

@@ -11,15 +11,16 @@ use crate::reading::read_report;
 use crate::templates::Form;
 use std::alloc::Global;
 
-/// A report of a form as JSON (RFC 8259): an object in lines that are moved in, keys in alphabetical order, and a
-/// line's end behind it.
+/// Returns a report of a form as JSON (RFC 8259): an indented object with its keys in alphabetical order, and a line
+/// end.
 ///
-/// The lines of the report are read by the form's templates, and the rows give back the whole report; the document is
-/// made of these rows, as `document_of` says: what a row says that stands in no list is a member of the document, and
-/// each list has its rows. Numbers are JSON's numbers, yes and no are true and false.
+/// The form's templates read the lines of the report, and the rows give back the whole report. The document follows
+/// from the rows (`document_of`): a row that belongs to no list gives members of the document, and each list has its
+/// rows. Numbers are JSON numbers, yes and no are true and false.
 ///
-/// `Unread` is answered where the octets are not UTF-8, the last line has no end, or a line has none of the form's
-/// templates; `Memory` where memory ran out.
+/// # Errors
+///
+/// `Unread` if the last line has no end or a line fits none of the form's templates. `Memory` if an allocation failed.
 pub fn json_of(alloc: Global, form: &Form, text: &str) -> Result<String, FormatFault>
     ensures { IfOk result (λ json. (rows : List Row) × AreRows form.now.templates.now text.now rows
         × IsJson (document_of form.now rows) (string_bytes json)) }

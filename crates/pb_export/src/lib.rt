@@ -1,9 +1,9 @@
-//! Reports as JSON and as CSV: the lines of a report are read by templates, and what they say is written as a document.
+//! Reports as JSON and CSV: templates read the lines of a report, and the values become a document or a table.
 //!
-//! A template is a fixed text and slots behind it. A line has the form of a template where the slots can be filled so
-//! that the template's text, with what the slots hold, is the line, octet for octet. So nothing of a report is left out
-//! or invented: what was read gives the report back. Which templates there are, and where in a document a line stands,
-//! is told by a [`Form`], one for each command.
+//! A template is a fixed text and the slots after it. A line fits a template if it equals the template's text with
+//! values in the slots, octet for octet. The rows give the whole report back, so nothing is left out or invented. A
+//! [`Form`] has the templates of one command, and the place of each line in the document. Begin reading at
+//! `templates.rt`, then `reading.rt`, [`read_report`], [`json_of`] and [`csv_of`].
 #![tactic(auto)]
 
 mod documents;

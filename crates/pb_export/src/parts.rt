@@ -5,24 +5,24 @@ ghost use Rattle.pb_export.specs.Rows.{spaces};
 
 use itoa::Buffer;
 
-/// The most times that two spaces are read as a depth.
+/// The greatest depth, in pairs of spaces.
 const MOST_DEPTH: u64 = 64;
 
-/// What stands behind a text, where another begins with it.
+/// Returns what follows `front` in a text that begins with it.
 pub(crate) fn behind<'a>(text: &'a str, front: &str) -> Option<&'a str>
     ensures { IfSome result (λ rest. text.now ≡ front.now ++ rest.now) }
 {
     text.strip_prefix(front)
 }
 
-/// What stands in front of the first place where a text has another, and behind it.
+/// Returns the parts of a text before and after the first `middle` in it.
 pub(crate) fn around<'a>(text: &'a str, middle: &str) -> Option<(&'a str, &'a str)>
     ensures { IfSome result (λ parts. text.now ≡ parts.0.now ++ (middle.now ++ parts.1.now)) }
 {
     text.split_once(middle)
 }
 
-/// A text in two parts, of which the second begins where another text is found first; all, where that text is empty.
+/// Splits a text before the first `next` in it, or at its end if `next` is empty.
 pub(crate) fn before<'a>(text: &'a str, next: &str) -> Option<(&'a str, &'a str)>
     ensures { IfSome result (λ parts. text.now ≡ parts.0.now ++ parts.1.now) }
 {
@@ -32,13 +32,13 @@ pub(crate) fn before<'a>(text: &'a str, next: &str) -> Option<(&'a str, &'a str)
     text.split_at_checked(text.find(next)?)
 }
 
-/// How many digits stand at the front of a text.
+/// Returns the number of digits at the start of a text.
 fn digit_count(text: &str) -> usize {
     text.bytes().take_while(|c| c.is_ascii_digit()).count()
 }
 
-/// The number at the front of a text, and what stands behind it. None where there is none, or it isn't written as
-/// numbers are printed.
+/// Returns the number at the start of a text, and the text after it. Returns `None` if there is no number, or it isn't
+/// written as numbers are printed.
 pub(crate) fn number_at(text: &str) -> Option<(u64, &str)>
     ensures { IfSome result (λ parts. text.now ≡ decimal parts.0 ++ parts.1.now) }
 {
@@ -52,7 +52,7 @@ pub(crate) fn number_at(text: &str) -> Option<(u64, &str)>
     }
 }
 
-/// How many times two spaces stand at the front of a text, 64 times at most, and what stands behind them.
+/// Returns how many pairs of spaces a text begins with, at most 64, and the text after them.
 pub(crate) fn depth_at(text: &str) -> (u64, &str)
     ensures { text.now ≡ spaces result.0 ++ result.1.now }
 {

@@ -1,4 +1,4 @@
-//! Lines, read by templates.
+//! Templates read lines.
 
 ghost use Rattle.std.specs.Prelude.{◌≡◌, ◌++◌, List, map, Contains, All, IfOk, IfSome};
 ghost use Rattle.pb_export.specs.Rows.{field_text, fields_text, filled_text, report_text, row_text, Fits, IsFilled};
@@ -11,7 +11,7 @@ use crate::templates::{Choice, Kind, Slot, Template};
 use crate::words::{groups_in, numbers_at, words_in};
 use std::alloc::{AllocError, Global};
 
-/// The first of some texts that stands at the front of a text, and what stands behind it.
+/// Returns the first choice with which a text begins, and the text after it.
 fn choice_at<'a>(choices: &[Choice], text: &'a str) -> Option<(Choice, &'a str)>
     ensures text { IfSome result (λ parts. text.now ≡ parts.0.text.now ++ parts.1.now) }
     ensures among { IfSome result (λ parts. Contains choices.now parts.0) }
@@ -24,7 +24,7 @@ fn choice_at<'a>(choices: &[Choice], text: &'a str) -> Option<(Choice, &'a str)>
     None
 }
 
-/// What a slot holds that takes no memory, and what stands behind it.
+/// Returns the value of a slot that needs no allocation, and the text after it.
 fn plain_field<'a>(slot: &Slot, text: &'a str) -> Option<(Field<'a>, &'a str)>
     ensures text { IfSome result (λ parts. text.now ≡ field_text parts.0 ++ parts.1.now) }
     ensures fits { IfSome result (λ parts. Fits slot.now.kind parts.0) }
@@ -50,7 +50,7 @@ fn plain_field<'a>(slot: &Slot, text: &'a str) -> Option<(Field<'a>, &'a str)>
     }
 }
 
-/// Words, each behind a space, up to where another text is found first.
+/// Returns words, each after a space, up to the first `until`, and the text from there on.
 fn words_field<'a>(
     alloc: Global,
     text: &'a str,
@@ -68,7 +68,7 @@ fn words_field<'a>(
     }
 }
 
-/// Numbers, each behind a space.
+/// Returns numbers, each after a space, and the text after them.
 fn numbers_field<'a>(
     alloc: Global,
     text: &'a str,
@@ -80,7 +80,7 @@ fn numbers_field<'a>(
     Ok(Some((Field::Numbers(numbers), rest)))
 }
 
-/// Groups of words, up to the end of a line.
+/// Returns groups of words, up to the end of a line.
 fn groups_field<'a>(
     alloc: Global,
     text: &'a str,
@@ -94,8 +94,8 @@ fn groups_field<'a>(
     }
 }
 
-/// What a slot holds at the front of a text, and what stands behind it. None where nothing that it may hold stands
-/// there.
+/// Returns the value of a slot at the start of a text, and the text after it. Returns `None` if no value of the slot's
+/// kind is there.
 fn field_at<'a>(
     alloc: Global,
     slot: &Slot,
@@ -112,8 +112,7 @@ fn field_at<'a>(
     }
 }
 
-/// A slot that is filled by what stands at the front of a text, with the fixed text behind it, and what stands behind
-/// that.
+/// Returns a slot with its value at the start of a text, and the text after the slot's fixed text.
 fn filled_at<'a>(
     alloc: Global,
     slot: &Slot,
@@ -131,7 +130,7 @@ fn filled_at<'a>(
     }
 }
 
-/// Slots that are filled by a text. None where it isn't theirs.
+/// Returns slots with their values in a text. Returns `None` if the text doesn't fit them.
 fn fields_of<'a>(
     alloc: Global,
     slots: &[Slot],
@@ -156,7 +155,7 @@ fn fields_of<'a>(
     }
 }
 
-/// A line, read by a template. None where it has another form.
+/// Returns a line as a row of a template. Returns `None` if the line doesn't fit it.
 fn row_by<'a>(
     alloc: Global,
     template: &Template,
@@ -176,7 +175,7 @@ fn row_by<'a>(
     }
 }
 
-/// A line, read by the first of some templates whose form it has. None where it has none of these forms.
+/// Returns a line as a row of the first template that it fits. Returns `None` if it fits none.
 fn row_of<'a>(
     alloc: Global,
     templates: &[Template],
@@ -192,9 +191,11 @@ fn row_of<'a>(
     Ok(None)
 }
 
-/// Reads a report line by line, each by the first of some templates whose form it has. The rows give back the text.
+/// Returns a report as rows, line by line, each of the first template that the line fits. The rows give back the text.
 ///
-/// `Unread` is answered where a line has none of the forms, or the last line has no end; `Memory` where memory ran out.
+/// # Errors
+///
+/// `Unread` if a line fits none of the templates or the last line has no end. `Memory` if an allocation failed.
 pub fn read_report<'a>(
     alloc: Global,
     templates: &[Template],

@@ -1,40 +1,40 @@
-//! What was read of a line.
+//! The rows of a report.
 
 use crate::templates::{Choice, Slot, Template};
 
-/// What stands in a slot of a line.
+/// The value of a slot in a line.
 #[derive(Drop)]
 pub enum Field<'a> {
     /// A text.
     Text(&'a str),
     /// A number.
     Number(u64),
-    /// So many times two spaces.
+    /// A depth, in pairs of spaces.
     Depth(u64),
     /// Words.
     Words(Vec<&'a str>),
     /// Numbers.
     Numbers(Vec<u64>),
-    /// Groups of words but the last one, and the last one.
+    /// Groups of words: all but the last one, and the last one.
     Groups(Vec<Vec<&'a str>>, Vec<&'a str>),
-    /// One of the texts of the slot.
+    /// One of the choices of the slot.
     Chosen(Choice),
 }
 
-/// A slot, and what stands there.
+/// A slot with its value.
 #[derive(Drop)]
 pub struct Filled<'a> {
     /// The slot.
     pub slot: Slot,
-    /// What stands there.
+    /// Its value.
     pub field: Field<'a>,
 }
 
-/// A line that was read.
+/// A line of a report as values.
 #[derive(Drop)]
 pub struct Row<'a> {
-    /// The form of the line.
+    /// The template of the line.
     pub template: Template,
-    /// Its slots, with what stands in each.
+    /// Its slots, with the value of each.
     pub fields: Vec<Filled<'a>>,
 }

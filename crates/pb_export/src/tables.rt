@@ -20,7 +20,7 @@ use std::alloc::{AllocError, Global};
 pub enum Cell {
     /// This text.
     Fixed(&'static str),
-    /// What the slot of this key holds, and nothing where there is no such slot.
+    /// The value of the slot with this key, or nothing if there is no such slot.
     Held(&'static str),
 }
 
@@ -38,11 +38,11 @@ pub struct CellRow {
 pub struct Table {
     /// The titles of its columns.
     pub titles: &'static [&'static str],
-    /// The lines that rows have.
+    /// The lines of rows.
     pub lines: &'static [CellRow],
 }
 
-/// What a fixed text says.
+/// Returns the meaning of a fixed text as a cell.
 fn said_cell(says: Said) -> &'static str
     ensures { result.now ≡ said_cell says }
 {
@@ -54,7 +54,7 @@ fn said_cell(says: Said) -> &'static str
     }
 }
 
-/// What stands in a slot; nothing of a list.
+/// Returns the value of a slot as a cell, which is empty for a list.
 fn field_cell(alloc: Global, field: &Field<'_>) -> Result<String, AllocError>
     ensures { IfOk result (λ s. string_bytes s ≡ field_cell field.now) }
 {
@@ -66,7 +66,7 @@ fn field_cell(alloc: Global, field: &Field<'_>) -> Result<String, AllocError>
     }
 }
 
-/// What the slot of a key holds.
+/// Returns the cell of the slot with a key, or an empty cell if there is none.
 fn cell_at(alloc: Global, key: &str, fields: &[Filled<'_>]) -> Result<String, AllocError>
     ensures { IfOk result (λ s. string_bytes s ≡ cell_at key.now fields.now) }
 {
@@ -78,7 +78,7 @@ fn cell_at(alloc: Global, key: &str, fields: &[Filled<'_>]) -> Result<String, Al
     Ok(String::new(alloc))
 }
 
-/// A cell of a row.
+/// Returns a cell of a row.
 fn cell_text(alloc: Global, row: &Row<'_>, cell: &Cell) -> Result<String, AllocError>
     ensures { IfOk result (λ s. string_bytes s ≡ cell_text row.now cell.now) }
 {
@@ -88,7 +88,7 @@ fn cell_text(alloc: Global, row: &Row<'_>, cell: &Cell) -> Result<String, AllocE
     }
 }
 
-/// The cells of a row.
+/// Returns the cells of a row.
 fn cells_of(alloc: Global, row: &Row<'_>, cells: &[Cell]) -> Result<Vec<String>, AllocError>
     ensures { IfOk result (λ texts. map string_bytes texts.items ≡ map (cell_text row.now) cells.now) }
 {
@@ -99,7 +99,7 @@ fn cells_of(alloc: Global, row: &Row<'_>, cells: &[Cell]) -> Result<Vec<String>,
     Ok(texts)
 }
 
-/// A line of a table with these cells.
+/// Returns a line of a table with these cells.
 fn line_with(alloc: Global, cells: &[&[u8]]) -> Result<Vec<u8>, Error>
     ensures { IfOk result (λ line. line.items ≡ csv_line writer (map (λ c. c.now) cells.now)) }
 {
@@ -113,7 +113,7 @@ fn line_with(alloc: Global, cells: &[&[u8]]) -> Result<Vec<u8>, Error>
     }
 }
 
-/// Puts a line with these cells behind a table.
+/// Appends a line with these cells to a table.
 fn put_line(alloc: Global, out: &mut Vec<u8>, cells: &[&[u8]]) -> Result<(), FormatFault>
     ensures { OnOk result (out.new.items ≡ out.old.items ++ csv_line writer (map (λ c. c.now) cells.now)) }
 {
@@ -124,7 +124,7 @@ fn put_line(alloc: Global, out: &mut Vec<u8>, cells: &[&[u8]]) -> Result<(), For
     Ok(())
 }
 
-/// The octets of texts.
+/// Returns the octets of texts.
 fn octets_of(alloc: Global, texts: &[String]) -> Result<Vec<&[u8]>, AllocError>
     ensures { IfOk result (λ octets. map (λ o. o.now) octets.items ≡ map string_bytes texts.now) }
 {
@@ -135,7 +135,7 @@ fn octets_of(alloc: Global, texts: &[String]) -> Result<Vec<&[u8]>, AllocError>
     Ok(octets)
 }
 
-/// Puts the titles of a table.
+/// Appends the titles of a table.
 fn put_titles(alloc: Global, out: &mut Vec<u8>, titles: &[&str]) -> Result<(), FormatFault>
     ensures { OnOk result (out.new.items ≡ out.old.items ++ csv_line writer (map (λ t. t.now) titles.now)) }
 {
@@ -146,7 +146,7 @@ fn put_titles(alloc: Global, out: &mut Vec<u8>, titles: &[&str]) -> Result<(), F
     put_line(alloc, out, octets.as_slice())
 }
 
-/// Puts the line that a row has by one of a table's forms, where it has one.
+/// Appends the line of a row in one of a table's forms, if the row belongs to its list.
 fn put_row(
     alloc: Global,
     out: &mut Vec<u8>,
@@ -163,7 +163,7 @@ fn put_row(
     put_line(alloc, out, octets.as_slice())
 }
 
-/// Puts the lines that a row has in a table.
+/// Appends the lines of a row.
 fn put_lines(
     alloc: Global,
     out: &mut Vec<u8>,
@@ -178,7 +178,7 @@ fn put_lines(
     Ok(())
 }
 
-/// Puts the lines that rows have in a table.
+/// Appends the lines of several rows.
 fn put_rows(
     alloc: Global,
     out: &mut Vec<u8>,
@@ -193,11 +193,12 @@ fn put_rows(
     Ok(())
 }
 
-/// A report of a form as CSV (RFC 4180): a line of titles, and behind it for each row of the report, in its order, the
-/// lines that its list has in the table. Other rows have none, and lists inside a row have no cell.
+/// Returns a report of a form as CSV (RFC 4180): a line of titles, then for each row of the report, in its order, the
+/// lines that its list has in the table. Rows of other lists have none, and a list inside a row has no cell.
 ///
-/// `Unread` is answered where the last line of the text has no end, or a line has none of the form's templates;
-/// `Memory` where memory ran out.
+/// # Errors
+///
+/// `Unread` if the last line has no end or a line fits none of the form's templates. `Memory` if an allocation failed.
 pub fn csv_of(alloc: Global, form: &Form, table: &Table, text: &str) -> Result<Vec<u8>, FormatFault>
     ensures { IfOk result (λ csv. (rows : List Row) × AreRows form.now.templates.now text.now rows
         × (csv.items ≡ table_text table.now rows)) }

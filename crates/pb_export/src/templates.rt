@@ -1,6 +1,6 @@
-//! How the lines of a report are read, and where they stand in its document.
+//! The templates of a report's lines, and the lists of its document.
 
-/// What a fixed text of a report says.
+/// The meaning of a fixed text.
 #[derive(Clone, Copy)]
 pub enum Said {
     /// This word.
@@ -13,66 +13,66 @@ pub enum Said {
     Nothing,
 }
 
-/// A fixed text that may stand in a slot, and what it says.
+/// A fixed text that a slot may hold, with its meaning.
 #[derive(Clone, Copy)]
 pub struct Choice {
     /// The text.
     pub text: &'static str,
-    /// What it says.
+    /// Its meaning.
     pub says: Said,
 }
 
-/// What may stand in a slot.
+/// The kind of a slot.
 #[derive(Clone, Copy)]
 pub enum Kind {
-    /// Any text, up to what stands behind the slot, or to the end of the line where that is nothing.
+    /// Any text, up to the first fixed text after the slot, or to the end of the line if that text is empty.
     Text,
-    /// A number in decimal digits, with no zero before another digit, less than 2^64.
+    /// A number in decimal digits, without leading zeros, less than 2^64.
     Number,
-    /// So many times two spaces, 64 times at most.
+    /// A number of pairs of spaces, at most 64.
     Depth,
-    /// Words, each behind a space, up to what stands behind the slot.
+    /// Words, each after a space, up to the fixed text after the slot.
     Words,
-    /// Numbers, each behind a space, as many as there are.
+    /// Numbers, each after a space, as many as there are.
     Numbers,
     /// Groups of words, with ` |` between two groups, up to the end of the line.
     Groups,
-    /// The first of these texts that stands there.
+    /// The first of these texts with which the rest of the line begins.
     OneOf(&'static [Choice]),
 }
 
-/// A place in a line where something may stand that differs from line to line.
+/// A variable part of a line.
 #[derive(Clone, Copy)]
 pub struct Slot {
-    /// The key of what stands there.
+    /// The key of its value.
     pub key: &'static str,
-    /// What may stand there.
+    /// The kind of its value.
     pub kind: Kind,
-    /// The fixed text behind it.
+    /// The fixed text after it.
     pub until: &'static str,
 }
 
-/// The form of a line: a fixed text, and slots behind it.
+/// The form of a line: a fixed text, and the slots after it.
 #[derive(Clone, Copy)]
 pub struct Template {
-    /// The list of the document in which the line stands, or nothing: what it says stands in the document itself.
+    /// The list of the document to which the line belongs, or empty if its values are members of the document itself.
     pub home: &'static str,
-    /// The fixed text at the front.
+    /// The fixed text at the start.
     pub lead: &'static str,
-    /// The slots behind it.
+    /// The slots after it.
     pub slots: &'static [Slot],
 }
 
-/// How the lines of a list stand in a document.
+/// The shape of a list in a document.
 #[derive(Clone, Copy)]
 pub enum ListShape {
     /// An array with an object for each line.
     Objects,
-    /// An array with what the first slot of each line holds.
+    /// An array with the value of the first slot of each line.
     Values,
-    /// The same, left out where there is no line.
+    /// The same as `Values`, left out if there is no line.
     Leftovers,
-    /// The object of the first line, left out where there is none.
+    /// The object of the first line, left out if there is none.
     Single,
 }
 
@@ -81,7 +81,7 @@ pub enum ListShape {
 pub struct ListForm {
     /// Its key, which is the home of its lines.
     pub key: &'static str,
-    /// How its lines stand there.
+    /// Its shape.
     pub shape: ListShape,
     /// The lists inside each of its objects: each has the lines of that home that follow the object's own line, up to
     /// the first line that belongs to none of them.
@@ -91,7 +91,7 @@ pub struct ListForm {
 /// The form of a command's reports.
 #[derive(Clone, Copy)]
 pub struct Form {
-    /// The forms of its lines: a line has the first that fits.
+    /// The templates of its lines. A line is read by the first that it fits.
     pub templates: &'static [Template],
     /// The lists of its document.
     pub lists: &'static [ListForm],

@@ -1,4 +1,4 @@
-//! What stands in a slot, as a value of JSON.
+//! The value of a slot as a JSON value.
 
 ghost use Rattle.std.specs.Prelude.{◌≡◌, IfOk, option_map};
 ghost use Rattle.serde_json.specs.Data.{array};
@@ -10,7 +10,7 @@ use crate::templates::Said;
 use serde_json::Value;
 use std::alloc::{AllocError, Global};
 
-/// What a fixed text says. None where it says nothing.
+/// Returns the meaning of a fixed text as a value, or `None` if it has none.
 fn said_value(alloc: Global, says: Said) -> Result<Option<Value>, AllocError>
     ensures { IfOk result (λ o. option_map view o ≡ said_data says) }
 {
@@ -22,7 +22,7 @@ fn said_value(alloc: Global, says: Said) -> Result<Option<Value>, AllocError>
     }
 }
 
-/// An array of words.
+/// Returns an array of words.
 fn words_value(alloc: Global, words: &[&str]) -> Result<Value, AllocError>
     ensures { IfOk result (λ v. view v ≡ words_data words.now) }
 {
@@ -33,7 +33,7 @@ fn words_value(alloc: Global, words: &[&str]) -> Result<Value, AllocError>
     Ok(Value::Array(values))
 }
 
-/// An array of numbers.
+/// Returns an array of numbers.
 fn numbers_value(alloc: Global, numbers: &[u64]) -> Result<Value, AllocError>
     ensures { IfOk result (λ v. view v ≡ numbers_data numbers.now) }
 {
@@ -44,7 +44,7 @@ fn numbers_value(alloc: Global, numbers: &[u64]) -> Result<Value, AllocError>
     Ok(Value::Array(values))
 }
 
-/// An array of arrays of words.
+/// Returns an array of arrays of words.
 fn groups_value(alloc: Global, groups: &[Vec<&str>], last: &[&str]) -> Result<Value, AllocError>
     ensures { IfOk result (λ v. view v ≡ groups_data groups.now last.now) }
 {
@@ -56,7 +56,7 @@ fn groups_value(alloc: Global, groups: &[Vec<&str>], last: &[&str]) -> Result<Va
     Ok(Value::Array(values))
 }
 
-/// What stands in a slot, as a value. None where it says nothing.
+/// Returns the value of a slot, or `None` if a fixed text has no meaning.
 pub(crate) fn field_value(alloc: Global, field: &Field<'_>) -> Result<Option<Value>, AllocError>
     ensures { IfOk result (λ o. option_map view o ≡ field_data field.now) }
 {

@@ -6,7 +6,7 @@ ghost use Rattle.pb_export.specs.Rows.{words_text, numbers_text, groups_text};
 use crate::parts::{around, before, behind, number_at};
 use std::alloc::{AllocError, Global};
 
-/// The word behind the space at the front of a text, and what stands behind it.
+/// Returns the word after the space at the start of a text, and the text after the word.
 fn word_at(text: &str) -> Option<(&str, &str)>
     ensures { IfSome result (λ parts. text.now ≡ 32 ∷ (parts.0.now ++ parts.1.now)) }
 {
@@ -17,7 +17,7 @@ fn word_at(text: &str) -> Option<(&str, &str)>
     }
 }
 
-/// The words of a text that has a space in front of each; none where it has another form.
+/// Returns the words of a text, each of which follows a space. Returns `None` if the text has another form.
 pub(crate) fn words_in(alloc: Global, text: &str) -> Result<Option<Vec<&str>>, AllocError>
     ensures { IfOk result (λ o. IfSome o (λ words. text.now ≡ words_text words.items)) }
 {
@@ -34,14 +34,14 @@ pub(crate) fn words_in(alloc: Global, text: &str) -> Result<Option<Vec<&str>>, A
     }
 }
 
-/// The number behind the space at the front of a text, and what stands behind it.
+/// Returns the number after the space at the start of a text, and the text after the number.
 fn spaced_number(text: &str) -> Option<(u64, &str)>
     ensures { IfSome result (λ parts. text.now ≡ 32 ∷ (decimal parts.0 ++ parts.1.now)) }
 {
     number_at(behind(text, " ")?)
 }
 
-/// The numbers at the front of a text, each behind a space, and what stands behind them.
+/// Returns the numbers at the start of a text, each of which follows a space, and the text after them.
 pub(crate) fn numbers_at(alloc: Global, text: &str) -> Result<(Vec<u64>, &str), AllocError>
     ensures { IfOk result (λ parts. text.now ≡ numbers_text parts.0.items ++ parts.1.now) }
 {
@@ -54,7 +54,8 @@ pub(crate) fn numbers_at(alloc: Global, text: &str) -> Result<(Vec<u64>, &str), 
     Ok((numbers, rest))
 }
 
-/// The groups of words in a text, but the last one, and the last one. None where a group has another form.
+/// Returns the groups of words of a text: all but the last one, and the last one. Returns `None` if a group has another
+/// form.
 pub(crate) fn groups_in(
     alloc: Global,
     text: &str,

@@ -1,4 +1,4 @@
-//! Runs of pb_export with ample memory.
+//! The tests of pb_export, with enough memory. Begin reading at `tests.rt`.
 #![tactic(auto)]
 
 #[cfg(test)]

@@ -20,7 +20,7 @@ use std::alloc::Global;
 use std::process::Abort;
 use std::test::Fail;
 
-/// A report, and what its document says, in any layout of JSON.
+/// A report with its document, in any layout of JSON.
 pub(crate) struct Said {
     /// The report.
     pub(crate) text: &'static str,
@@ -28,8 +28,8 @@ pub(crate) struct Said {
     pub(crate) json: &'static str,
 }
 
-/// What a caller may take from `json_of`: the JSON is read back as the document of some rows, and these give back the
-/// report.
+/// Calls `json_of` with what a caller may conclude: the JSON is read back as the document of some rows, and these give
+/// back the report.
 fn documented(alloc: Global, form: &Form, text: &str) -> Result<String, FormatFault>
     ensures { IfOk result (λ json. (rows : List Row) × (text.now ≡ report_text rows)
         × (read (string_bytes json) ≡ Some (document_of form.now rows))) }
@@ -37,7 +37,8 @@ fn documented(alloc: Global, form: &Form, text: &str) -> Result<String, FormatFa
     json_of(alloc, form, text)
 }
 
-/// What a caller may take from `csv_of`: a line of titles and the lines of some rows, and these give back the report.
+/// Calls `csv_of` with what a caller may conclude: a line of titles and the lines of some rows, and these give back the
+/// report.
 fn tabulated(alloc: Global, form: &Form, table: &Table, text: &str) -> Result<Vec<u8>, FormatFault>
     ensures { IfOk result (λ csv. (rows : List Row) × (text.now ≡ report_text rows)
         × (csv.items ≡ csv_line writer (map (λ t. t.now) table.now.titles.now) ++ rows_text table.now.lines.now rows)) }
@@ -45,7 +46,7 @@ fn tabulated(alloc: Global, form: &Form, table: &Table, text: &str) -> Result<Ve
     csv_of(alloc, form, table, text)
 }
 
-/// Whether a document of each report says what it is to say, as the library reads it back.
+/// Checks that the JSON of each report is its document, as serde_json reads both.
 fn say(rt: &impl Abort, alloc: Global, form: &Form, rows: &[Said]) -> Result<(), Fail> {
     for row in rows {
         let json = documented(alloc, form, row.text)?;
@@ -86,7 +87,7 @@ fn survivals_are_said(rt: HostRuntime) -> Result<(), Fail> {
     say(&rt, rt.alloc(), &SURVIVE, SURVIVALS)
 }
 
-/// A text that is no report has no document.
+/// Checks that a text that is not a report has no document.
 #[test]
 fn no_reports_are_refused(rt: HostRuntime) -> Result<(), Fail> {
     let alloc = rt.alloc();
@@ -104,7 +105,7 @@ fn no_reports_are_refused(rt: HostRuntime) -> Result<(), Fail> {
     Ok(())
 }
 
-/// A report in the layout that is printed.
+/// Checks the layout of a document.
 #[test]
 fn json_is_laid_out(rt: HostRuntime) -> Result<(), Fail> {
     let json = json_of(
@@ -126,7 +127,7 @@ fn json_is_laid_out(rt: HostRuntime) -> Result<(), Fail> {
     Ok(())
 }
 
-/// Whether a table is written so.
+/// Checks the table of a report.
 fn tabled(
     rt: &impl Abort,
     alloc: Global,

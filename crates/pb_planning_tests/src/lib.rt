@@ -1,4 +1,5 @@
-//! Runs of `draw` and `survive`, and of what lets a network rest, with ample memory.
+//! The tests of `draw`, `survive` and of driving a network to convergence, with enough memory. Begin reading at
+//! `tests.rt`.
 #![tactic(auto)]
 
 #[cfg(test)]

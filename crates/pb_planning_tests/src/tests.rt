@@ -1,4 +1,4 @@
-//! Each module has a harness, and its tests name networks.
+//! A module for each subject: its harness and its tests over networks.
 
 mod draw;
 mod settle;

@@ -1,4 +1,4 @@
-//! What is said of plan files and of the reserved addresses.
+//! The texts of `check` and `show`.
 
 ghost use Rattle.std.specs.Prelude.{◌≡◌, ◌⊎◌, [], ◌∷◌, flat_map, ℕ, List, OnOk, IfOk};
 ghost use Rattle.std.specs.Io.KnownBytes.{Appends};
@@ -64,7 +64,7 @@ b = "B2"
 b_port = 1
 "#;
 
-/// Another.
+/// A second link for all services.
 const SECOND: &str = r#"
 [[link]]
 name = "L2"
@@ -74,14 +74,14 @@ b = "B2"
 b_port = 4
 "#;
 
-/// What one service takes the first link for.
+/// The keys of a link for the service red alone.
 const FOR_RED: &str = "a_services = [\"red\"]\nb_services = [\"red\"]\n";
 
-/// And another the second.
+/// The keys of a link for the service blue alone.
 const FOR_BLUE: &str = "a_services = [\"blue\"]\nb_services = [\"blue\"]\n";
 
-/// What a caller may take from `run_check`: the status 0 with what the plan has, or 1 with the rule that the file
-/// breaks.
+/// Calls `run_check` with what a caller may conclude: the status 0 with the counts of the plan, or 1 with the rule that
+/// the file breaks.
 fn checked<W: Write>(alloc: Global, file: &[u8], writer: &mut W) -> Result<u8, CommandFault>
     ensures { IfOk result (λ status. (text : List ℕ) × Appends (W.contents writer.old) (W.contents writer.new) text
         × (((status ≡ 0) × IsPlanText file.now text) ⊎ ((status ≡ 1) × IsRefusalText file.now text))) }
@@ -89,7 +89,7 @@ fn checked<W: Write>(alloc: Global, file: &[u8], writer: &mut W) -> Result<u8, C
     run_check(alloc, file, writer)
 }
 
-/// What a caller may take from `run_show`: the line of each of the sixteen addresses.
+/// Calls `run_show` with what a caller may conclude: the line of each of the sixteen addresses.
 fn shown<W: Write>(writer: &mut W) -> Result<(), CommandFault>
     ensures { OnOk result (Appends (W.contents writer.old) (W.contents writer.new)
         (flat_map (λ k. fate_line (block k)) (0 ∷ 1 ∷ 2 ∷ 3 ∷ 4 ∷ 5 ∷ 6 ∷ 7 ∷ 8 ∷ 9 ∷ 10 ∷ 11 ∷ 12 ∷ 13 ∷ 14 ∷ 15
@@ -98,7 +98,7 @@ fn shown<W: Write>(writer: &mut W) -> Result<(), CommandFault>
     run_show(writer)
 }
 
-/// What is written of a file of these parts, with the exit status.
+/// Checks the text and the exit status for a file of these parts.
 fn says(rt: &impl Abort, alloc: Global, parts: &[&str], want: (u8, &str)) -> Result<(), Fail> {
     let mut file = String::new(alloc);
     for part in parts {

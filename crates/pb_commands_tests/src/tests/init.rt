@@ -1,4 +1,4 @@
-//! Plan files to begin with, in all topologies.
+//! Starter plans in all topologies.
 
 ghost use Rattle.std.specs.Prelude.{◌++◌, flat_map, OnOk};
 ghost use Rattle.std.specs.Io.KnownBytes.{Appends};
@@ -19,11 +19,11 @@ use std::io::Write;
 use std::process::Abort;
 use std::test::Fail;
 
-/// What a file tells: how many bridges, links and customer ports there are, the milliseconds of a tick, and the ticks
-/// before frames enter.
+/// The content of a file: the numbers of bridges, links and customer ports, the milliseconds of a tick, and the ticks
+/// before the first frame.
 type Told = (u8, u8, u8, u64, u64);
 
-/// A file is a plan that tells this, with one service and no ring that is open at the start.
+/// Checks that a file is a plan with this content, with one service and no forwarding loop at start.
 fn tells(rt: &impl Abort, alloc: Global, file: &[u8], want: Told) -> Result<(), Fail> {
     let (bridges, links, ports, tick_ms, hold) = want;
     let answer = format!(in alloc;
@@ -47,7 +47,7 @@ fn tells(rt: &impl Abort, alloc: Global, file: &[u8], want: Told) -> Result<(), 
     Ok(())
 }
 
-/// The file with what it has for trying: the keys and tables right behind a sign of a comment.
+/// Returns the file with its suggestions: the keys and tables that follow a comment sign without a space.
 fn tried(alloc: Global, file: &[u8]) -> Result<String, AllocError> {
     let mut text = String::new(alloc);
     for line in std::str::from_utf8(file).unwrap_or("").lines() {
@@ -61,8 +61,8 @@ fn tried(alloc: Global, file: &[u8]) -> Result<String, AllocError> {
     Ok(text)
 }
 
-/// What a caller may take from `write_plan`: a table for each bridge, link and customer port of the topology, in order,
-/// between the network's keys and what can be tried.
+/// Calls `write_plan` with what a caller may conclude: a table for each bridge, link and customer port of the topology,
+/// in order, between the keys of the network and the suggestions.
 fn begun<W: Write>(alloc: Global, topology: Topology, writer: &mut W) -> Result<(), CommandFault>
     ensures { OnOk result (Appends (W.contents writer.old) (W.contents writer.new)
         (head_text ++ keys_text topology ++ places_text
@@ -75,7 +75,8 @@ fn begun<W: Write>(alloc: Global, topology: Topology, writer: &mut W) -> Result<
     write_plan(alloc, topology, writer)
 }
 
-/// The file of a topology is a plan that tells this, and so is what it has for trying, with two ports more and a clock.
+/// Checks that the file of a topology is a plan with this content, and also the file with its suggestions, which has
+/// two more ports and a clock.
 fn begins(rt: &impl Abort, alloc: Global, topology: Topology, want: Told) -> Result<(), Fail> {
     let mut file = Vec::new(alloc);
     assert_eq!(rt; begun(alloc, topology, &mut file), Ok(()));

@@ -1,4 +1,4 @@
-//! What is answered to step scripts.
+//! The replies to step scripts.
 
 ghost use Rattle.std.specs.Prelude.{◌≡◌, ◌≢◌, ◌⊎◌, IfErr, IfOk};
 ghost use Rattle.std.specs.Io.KnownBytes.{Keeps};
@@ -22,8 +22,8 @@ use std::io::{ErrorKind, Read, Write};
 use std::process::Abort;
 use std::test::Fail;
 
-/// What a caller may take from `run_script`: the status 0 with the answers and the report of the plan that the file
-/// tells, or 1 with the rule that it breaks; before a fault nothing, or the answers to the first lines.
+/// Calls `run_script` with what a caller may conclude: the status 0 with the replies and the report for the plan in the
+/// file, or 1 with the rule that it breaks; before a fault nothing, or the replies to the first lines.
 fn driven<R: Read, W: Write>(
     alloc: Global,
     file: &[u8],
@@ -40,7 +40,7 @@ fn driven<R: Read, W: Write>(
     run_script(alloc, file, reader, writer)
 }
 
-/// The script over the plan file writes this, and exits with 0.
+/// Checks that the script over the plan file writes this text, and exits with 0.
 fn drives(rt: &impl Abort, alloc: Global, plan: &str, script: &str, want: &str) {
     let mut output = Vec::new(alloc);
     let mut reader = script.as_bytes();
@@ -49,12 +49,12 @@ fn drives(rt: &impl Abort, alloc: Global, plan: &str, script: &str, want: &str) 
     assert!(rt; output.as_slice() == want.as_bytes());
 }
 
-/// The report of the two bridges where nothing happened.
+/// The report of the two bridges after no step.
 const NOTHING: &str =
     "port C1 entered 0 left 0 filtered 0\nport C2 entered 0 left 0 filtered 0\nport C3 entered 0 left 0 filtered 0\n\
     link L1 ab taken 0 lost 0 ba taken 0 lost 0\nforest yes\n";
 
-/// The answers to a script over the two bridges, before the report of a network in which nothing happened.
+/// Checks the replies to a script over the two bridges, which come before the report of a network without traffic.
 fn says(rt: &impl Abort, alloc: Global, script: &str, answers: &str) -> Result<(), Fail> {
     let mut want = String::from_str(alloc, answers)?;
     want.push_str(NOTHING)?;
@@ -128,7 +128,7 @@ fn the_limit_of_steps_ends_a_run(rt: HostRuntime) -> Result<(), Fail> {
     Ok(())
 }
 
-/// The two bridges, which decide their own spanning tree.
+/// Returns the plan of the two bridges with the rapid spanning tree.
 fn tree(alloc: Global) -> Result<String, Fail> {
     let mut plan = String::from_str(alloc, "[network]\nspanning = \"rstp\"\n")?;
     plan.push_str(two_bridges::PLAN)?;

@@ -1,4 +1,4 @@
-//! What is told of frames in plan files.
+//! The traces of frames in plan files.
 
 mod plans;
 
@@ -15,7 +15,7 @@ const BROADCAST: &str = "ffffffffffff02000000010108004142";
 /// A frame from 02-00-00-00-02-02 to that station.
 const REPLY: &str = "02000000010102000000020208004344";
 
-/// The frames that come in, each as its customer port and its digits.
+/// Returns the frames to inject, from their customer ports and hexadecimal digits.
 fn entries_of(alloc: Global, frames: &[(&str, &str)]) -> Result<Vec<Entry>, AllocError> {
     let mut entries = Vec::new(alloc);
     for (port, hex) in frames {
@@ -26,10 +26,10 @@ fn entries_of(alloc: Global, frames: &[(&str, &str)]) -> Result<Vec<Entry>, Allo
     Ok(entries)
 }
 
-/// A plan file, the frames that come in, whether the bridges settle before, how it ends, and what is written.
+/// A plan file, the frames to inject, whether the bridges converge first, the end, and the text.
 type Row<'a> = (&'a str, &'a [(&'a str, &'a str)], bool, TraceEnd, &'a str);
 
-/// The rows come out as they are told.
+/// Checks the end and the text of each row.
 fn tells(rt: &impl Abort, alloc: Global, rows: &[Row]) -> Result<(), Fail> {
     for (number, (plan, frames, settles, end, want)) in rows.iter().enumerate() {
         let entries = entries_of(alloc, frames)?;
@@ -48,7 +48,7 @@ fn tells(rt: &impl Abort, alloc: Global, rows: &[Row]) -> Result<(), Fail> {
     Ok(())
 }
 
-/// Back and forth over a link.
+/// A frame over a link, and a reply.
 const THERE_AND_BACK: &str = "\
 in ffffffffffff02000000010108004142: polled C1 0
   B1 2 from C1, red vid 100 priority 0, source learnt, flooded: relayed 1
@@ -67,7 +67,7 @@ in 02000000010102000000020208004344: polled C2 0
 left at C1 C2; refused 0; lost 0
 ";
 
-/// A priority tag comes off, and its priority stays. Then a frame for its own sender.
+/// A priority tag is removed, and its priority counts. Then a frame to its own sender.
 const PRIORITY: &str = "\
 in ffffffffffff02000000010188a8a00008004142: polled C1 0
   B1 2 from C1, red vid 100 priority 5, tag 88a8a000 taken off, source learnt, flooded: relayed 1
@@ -135,7 +135,7 @@ in ffffffffffff02000000010108004142: polled C2 0
 left at C1 C2 C3; refused 0; lost 0
 ";
 
-/// A broadcast goes both ways round the metro ring, and is refused where it is open.
+/// A broadcast goes both ways round the metro ring, and is filtered at the Discarding port.
 const METRO: &str = "\
 in ffffffffffff02000000010108000001: polled provider 0
   Centre 3 from provider, internet vid 100 priority 0, source learnt, flooded: relayed 1 2
@@ -164,7 +164,7 @@ in ffffffffffff02000000010108000001: polled provider 0
 left at shop hotel; refused 1; lost 0
 ";
 
-/// Bridges that decide the states settle before: the second link stands by at its far end.
+/// Bridges that run the protocol converge first: the second link is Discarding at its far end.
 const SETTLED: &str = "\
 settled yes ticks 2
 in ffffffffffff02000000010108004142: polled C1 0
@@ -180,7 +180,7 @@ in ffffffffffff02000000010108004142: polled C1 0
 left at C2; refused 1; lost 0
 ";
 
-/// Before the first tick no port to another bridge forwards.
+/// Before the first tick no port to another bridge is Forwarding.
 const UNSETTLED: &str = "\
 in ffffffffffff02000000010108004142: polled C1 0
   B1 2 from C1, red vid 100 priority 0, source learnt, nowhere: relayed
@@ -308,15 +308,15 @@ fn what_is_wrong_is_told(rt: HostRuntime) -> Result<(), Fail> {
     tells(&rt, rt.alloc(), ROWS)
 }
 
-/// How often a text has an end of a line, and whether it ends with another text.
+/// Returns the number of line ends in a text, and whether it ends with another text.
 fn lines_and_end(text: &str, end: &str) -> (usize, bool) {
     let lines = text.bytes().filter(|octet| *octet == b'\n').count();
     (lines, text.as_bytes().ends_with(end.as_bytes()))
 }
 
-/// Three bridges in an open ring. The frame comes in, and is received; then each four events take it a bridge on, and
-/// in the end two more put it onto a lane. Each third bridge is the first: the frame comes back 83 times, and the
-/// customer port there has room for 64 copies, or for one.
+/// Checks the trace of a frame in a forwarding loop of three bridges. The frame is injected and received; then each
+/// four events take it to the next bridge, and in the end two more put it onto a lane. Each third bridge is the first:
+/// the frame comes back 83 times, and the queue of the customer port there holds 64 copies, or one.
 #[test]
 fn a_frame_that_goes_round_is_told_so(rt: HostRuntime) -> Result<(), Fail> {
     const ROUND: &str = "goes round over L1 L2 L3; ended after 1000 events\n";

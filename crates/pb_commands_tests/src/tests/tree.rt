@@ -9,7 +9,7 @@ use std::alloc::{AllocError, Global};
 use std::process::Abort;
 use std::test::Fail;
 
-/// A ring of three bridges whose states the plan gives: L3 stands by at B3. The service blue has no way over L2.
+/// A ring of three bridges with given states: L3 is Discarding at B3. L2 does not carry the service blue.
 const GIVEN: &str = "\
 bridge = [\n\
   { name = \"B1\", address = \"02-00-00-00-00-01\" },\n\
@@ -24,7 +24,7 @@ link = [\n\
 service = [{ name = \"red\", vid = 100 }, { name = \"blue\", vid = 200 }]\n\
 ";
 
-/// The root of a tree is the bridge that is left when the others are peeled off.
+/// The trees of `GIVEN`. The root of a tree is the bridge that remains when the others are removed leaf by leaf.
 const GIVEN_TREES: &str = "\
 bridge B1\n\
 port B1 1 link L1 forwarding\n\
@@ -41,7 +41,7 @@ service red bridge B2 up L2 depth 1\n\
 service blue bridge B1 up L1 depth 1\n\
 ";
 
-/// Without L1 at B2, which is down.
+/// The trees without L1, whose end at B2 is disabled.
 const LESS: &str = "\
 bridge B1\n\
 port B1 1 link L1 forwarding\n\
@@ -56,7 +56,7 @@ forest yes\n\
 service red bridge B2 up L2 depth 1\n\
 ";
 
-/// Two links between two bridges.
+/// Three links between two bridges. L1 and L3 form a loop for the service red, and L2 carries no service.
 const RING: &str = "\
 bridge = [{ name = \"B1\", address = \"02-00-00-00-00-01\" }, { name = \"B2\", address = \"02-00-00-00-00-02\" }]\n\
 link = [\n\
@@ -81,7 +81,7 @@ loop red\n\
 service blue bridge B1 up L1 depth 1\n\
 ";
 
-/// Words as they stand on a command line.
+/// Returns arguments as they are on a command line.
 fn words_of(alloc: Global, texts: &[&str]) -> Result<Vec<String>, AllocError> {
     let mut words = Vec::new(alloc);
     for text in texts {
@@ -90,10 +90,10 @@ fn words_of(alloc: Global, texts: &[&str]) -> Result<Vec<String>, AllocError> {
     Ok(words)
 }
 
-/// A plan file, what goes down, the most ticks, how it ends, and what is written.
+/// A plan file, the ports to disable, the most ticks, the end, and the text.
 type Row<'a> = (&'a str, &'a [&'a str], u32, TreeEnd, &'a str);
 
-/// The rows come out as they are told.
+/// Checks the end and the text of each row.
 fn tells(rt: &impl Abort, alloc: Global, rows: &[Row]) -> Result<(), Fail> {
     for (number, (plan, downs, ticks, end, want)) in rows.iter().enumerate() {
         let words = words_of(alloc, downs)?;
@@ -181,7 +181,7 @@ fn given_trees_are_told(rt: HostRuntime) -> Result<(), Fail> {
     tells(&rt, rt.alloc(), ROWS)
 }
 
-/// Before a tick each bridge takes itself for the root.
+/// The trees before the first tick: each bridge is its own root.
 const UNSETTLED: &str = "\
 settled no ticks 0\n\
 bridge B0 root B0 cost 0\n\

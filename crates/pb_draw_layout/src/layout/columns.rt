@@ -1,4 +1,4 @@
-//! How wide boxes are, and where their columns lie.
+//! The width of boxes, and their horizontal positions.
 
 use super::levels::levels;
 use super::order::centres;
@@ -7,56 +7,57 @@ use crate::table::{Table, number_at};
 use pb_forest::numbered;
 use pb_lan::{CustomerPlan, LinkPlan, Plan, Shape};
 
-/// Free room between two boxes of a level.
+/// The distance between two boxes of a level.
 const GAP: u32 = 40;
 
-/// Free room at the edges of the picture.
+/// The margin at the edges of the picture.
 pub(crate) const MARGIN: u32 = 24;
 
-/// What a box is wide at least.
+/// The least width of a box.
 const LEAST_WIDTH: u32 = 104;
 
-/// What a letter of a bridge's name is wide.
+/// The width of a letter of a bridge's name.
 const NAME_LETTER: u32 = 8;
 
-/// What a letter of other names is wide.
+/// The width of a letter of other names.
 pub(crate) const LETTER: u32 = 7;
 
-/// What the bar of a port's line takes.
+/// The width of the bar in a port's line.
 const BAR: u32 = 44;
 
-/// Free room beside the texts in a box.
+/// The padding beside the texts in a box.
 const PADDING: u32 = 24;
 
-/// What an end of a link takes at an edge of a box.
+/// The width that an end of a link needs at an edge of a box.
 const LANDING: u32 = 18;
 
-/// How many letters behind the name of a link say that it loses frames.
+/// The number of letters that mark a link as one that loses frames.
 const LOSING_LETTERS: u32 = 8;
 
-/// Where things stand from left to right.
+/// The horizontal positions.
 #[derive(Clone, Copy)]
 pub(crate) struct Columns {
-    /// By bridge, its level.
+    /// The level of each bridge.
     pub levels: Table,
-    /// By bridge, the middle of its box in half steps.
+    /// The middle of each bridge's box, in half steps.
     pub centres: Table,
     /// The width of each box.
     pub box_width: u32,
-    /// From the middle of a box half the way to the next one's.
+    /// Half the distance from the middle of a box to that of the next one.
     pub half_step: u32,
-    /// The left edge of the leftmost box, and its middle in half steps.
+    /// The left edge of the leftmost box.
     pub left: u32,
+    /// The middle of the leftmost box, in half steps.
     pub first: u32,
 }
 
-/// The width of a text.
+/// Returns the width of a text, of which the first 64 octets count.
 pub(crate) fn text_width(text: &str, letter: u32) -> u32 {
     let letters = text.len().min(64) as u32;
     letters.saturating_mul(letter)
 }
 
-/// The width of a customer port's line.
+/// Returns the width of a customer port's line.
 fn port_width(plan: &Plan, customer: &CustomerPlan) -> u32 {
     let service = match numbered(plan.services.as_slice(), customer.service as usize) {
         None => 0,
@@ -67,7 +68,7 @@ fn port_width(plan: &Plan, customer: &CustomerPlan) -> u32 {
         .saturating_add(BAR + PADDING)
 }
 
-/// The width of a link's name, and of what is said behind it.
+/// Returns the width of a link's name, with the mark of a link that loses frames.
 pub(crate) fn label_width(link: &LinkPlan) -> u32 {
     let name = text_width(link.name.as_str(), LETTER);
     if link.lost_ab.len() == 0 && link.lost_ba.len() == 0 {
@@ -77,7 +78,7 @@ pub(crate) fn label_width(link: &LinkPlan) -> u32 {
     }
 }
 
-/// The width that the texts of boxes need.
+/// Returns the width that the texts in boxes need.
 fn widest_text(plan: &Plan) -> u32 {
     let mut widest = LEAST_WIDTH;
     for bridge in plan.bridges.as_slice() {
@@ -90,7 +91,7 @@ fn widest_text(plan: &Plan) -> u32 {
     widest
 }
 
-/// The width that the ends of links need at the edges of boxes.
+/// Returns the width that the ends of links need at the edges of boxes.
 fn widest_edge(plan: &Plan, levels: &Table, centres: &Table) -> u32 {
     let mut most = 0u32;
     for (place, link) in plan.links.as_slice().iter().enumerate() {
@@ -102,7 +103,7 @@ fn widest_edge(plan: &Plan, levels: &Table, centres: &Table) -> u32 {
     most.saturating_mul(LANDING)
 }
 
-/// Half of the width of the widest name of a link.
+/// Returns half the width of the widest name of a link.
 fn widest_label(plan: &Plan) -> u32 {
     let mut widest = 0u32;
     for link in plan.links.as_slice() {
@@ -111,7 +112,7 @@ fn widest_label(plan: &Plan) -> u32 {
     widest / 2
 }
 
-/// The least place of all bridges, in half steps.
+/// Returns the least middle of all bridges' boxes, in half steps.
 fn leftmost(plan: &Plan, centres: &Table) -> u32 {
     let mut first = u32::MAX;
     for (place, _) in plan.bridges.as_slice().iter().enumerate() {
@@ -120,7 +121,7 @@ fn leftmost(plan: &Plan, centres: &Table) -> u32 {
     first
 }
 
-/// Where the bridges of a plan stand from left to right.
+/// Computes the horizontal positions of a plan's bridges.
 pub(crate) fn columns_of(plan: &Plan, shape: &Shape) -> Columns {
     let levels = levels(plan, shape);
     let centres = centres(plan, &levels);
@@ -138,7 +139,7 @@ pub(crate) fn columns_of(plan: &Plan, shape: &Shape) -> Columns {
 }
 
 impl Columns {
-    /// The left edge of a bridge's box.
+    /// Returns the left edge of a bridge's box.
     pub(crate) fn box_left(&self, bridge: u32) -> u32 {
         let steps = self.centres.at(bridge).saturating_sub(self.first);
         steps
@@ -146,7 +147,8 @@ impl Columns {
             .saturating_add(self.left)
     }
 
-    /// Where from left to right an end of a link lands.
+    /// Returns the horizontal position at which an end of a link meets its bridge's box. All ends at one edge have
+    /// equal shares of it.
     pub(crate) fn landing(&self, plan: &Plan, link: &LinkPlan, number: u32, side: Side) -> u32 {
         let slot = slot_of(plan, &self.levels, &self.centres, link, number, side);
         let bridge = match side {
@@ -163,7 +165,7 @@ impl Columns {
         self.box_left(bridge).saturating_add(within)
     }
 
-    /// The right edge of the rightmost box.
+    /// Returns the right edge of the rightmost box.
     pub(crate) fn right(&self, plan: &Plan) -> u32 {
         let mut right = self.left;
         for (place, _) in plan.bridges.as_slice().iter().enumerate() {

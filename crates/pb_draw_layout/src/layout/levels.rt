@@ -1,4 +1,4 @@
-//! At which level each bridge stands: how many links lead up to the root of its tree.
+//! The level of each bridge: how many links lead up to the root of its tree.
 
 use crate::table::{Table, number_at};
 use pb_forest::are_ends_forwarding;
@@ -8,8 +8,8 @@ use pb_names::bridge_id;
 /// The level of a bridge that has none yet.
 pub(crate) const NOWHERE: u32 = u32::MAX;
 
-/// What tells which bridge of a tree is its root: the lowest. Where the bridges decide the states it is their
-/// identifier (IEEE 802.1D-2004 clause 9.2.5).
+/// Returns the rank of a bridge: the bridge with the lowest rank in a tree is its root. The rank is the bridge
+/// identifier (IEEE 802.1D-2004 clause 9.2.5) if the bridges run the protocol, else the bridge's place in the plan.
 fn rank(plan: &Plan, place: usize, bridge: &BridgePlan) -> u64 {
     match plan.spanning {
         Spanning::Fixed => place as u64,
@@ -17,7 +17,7 @@ fn rank(plan: &Plan, place: usize, bridge: &BridgePlan) -> u64 {
     }
 }
 
-/// The bridge that is the root of the next tree, by its number: the lowest of those that have no level.
+/// Returns the number of the next tree's root: the bridge with the lowest rank among those without a level.
 fn next_root(plan: &Plan, levels: &Table) -> Option<u32> {
     let mut best: Option<(u64, u32)> = None;
     for (place, bridge) in plan.bridges.as_slice().iter().enumerate() {
@@ -37,7 +37,7 @@ fn next_root(plan: &Plan, levels: &Table) -> Option<u32> {
     }
 }
 
-/// A bridge stands below another, where it doesn't stand higher.
+/// Puts a bridge one level below another, unless it is that high already.
 fn go_down(levels: &mut Table, from: u32, to: u32) {
     let below = levels.at(from).saturating_add(1);
     if below < levels.at(to) {
@@ -45,7 +45,7 @@ fn go_down(levels: &mut Table, from: u32, to: u32) {
     }
 }
 
-/// Bridges stand below those to which links join them that forward at both ends.
+/// Puts bridges below those to which links join them that are Forwarding at both ends.
 fn spread(plan: &Plan, shape: &Shape, levels: &mut Table) {
     for link in plan.links.as_slice() {
         if are_ends_forwarding(shape, link) {
@@ -55,10 +55,10 @@ fn spread(plan: &Plan, shape: &Shape, levels: &mut Table) {
     }
 }
 
-/// By bridge, how many links lead up to the root of its tree.
+/// Returns the level of each bridge: how many links lead up to the root of its tree.
 ///
-/// Trees are those of the links that forward at both ends. The root is the bridge with the lowest identifier where the
-/// bridges decide the states, and that with the lowest number where the plan gives them.
+/// Trees consist of the links that are Forwarding at both ends. The root is the bridge with the lowest identifier if
+/// the bridges run the protocol, and the one with the lowest number if the plan gives the states.
 pub(crate) fn levels(plan: &Plan, shape: &Shape) -> Table {
     let mut levels = Table::filled(NOWHERE);
     for _ in plan.bridges.as_slice() {

@@ -1,23 +1,23 @@
-//! Where in its level each bridge stands.
+//! The place of each bridge in its level.
 
 use super::levels::NOWHERE;
 use crate::table::Table;
 use pb_lan::{LinkPlan, Plan};
 
-/// Where the middle of a level lies: farther right than half of the bridges reach.
+/// The middle of each level, in half steps: more than half of the bridges need on either side.
 const MIDDLE: u32 = 64;
 
-/// How often all levels are gone through, down and up.
+/// The number of passes over all levels, up and down again.
 const SWEEPS: u32 = 6;
 
-/// Which neighbours pull a bridge.
+/// The neighbours that pull a bridge: those on levels above or below.
 #[derive(Clone, Copy)]
 enum Side {
     Above,
     Below,
 }
 
-/// The bridge at a link's other end.
+/// Returns the bridge at a link's other end, if the link is at this bridge.
 fn other_end(link: &LinkPlan, bridge: u32) -> Option<u32> {
     if link.a.bridge as u32 == bridge {
         Some(link.b.bridge as u32)
@@ -28,7 +28,7 @@ fn other_end(link: &LinkPlan, bridge: u32) -> Option<u32> {
     }
 }
 
-/// Whether a neighbour at this level pulls a bridge at that one.
+/// Checks whether a neighbour at this level pulls a bridge at that one.
 fn pulls(side: Side, neighbour: u32, bridge: u32) -> bool {
     match side {
         Side::Above => neighbour < bridge,
@@ -36,7 +36,7 @@ fn pulls(side: Side, neighbour: u32, bridge: u32) -> bool {
     }
 }
 
-/// The mean of the places of a bridge's neighbours, in sixteenths; its own place where it has none.
+/// Returns the mean place of a bridge's neighbours on one side, in sixteenths, or its own place if it has none.
 fn barycentre(plan: &Plan, levels: &Table, centres: &Table, bridge: u32, side: Side) -> u32 {
     let mut sum = 0u32;
     let mut count = 0u32;
@@ -55,7 +55,8 @@ fn barycentre(plan: &Plan, levels: &Table, centres: &Table, bridge: u32, side: S
     }
 }
 
-/// By bridge of a level, a number by which they are ordered, of which no two are alike; of others, `NOWHERE`.
+/// Returns a key for each bridge of a level, by which they are ordered. No two keys are equal. Other bridges have
+/// `NOWHERE`.
 fn keys(plan: &Plan, levels: &Table, centres: &Table, level: u32, side: Side) -> Table {
     let mut keys = Table::filled(NOWHERE);
     for bridge in 1..33u32 {
@@ -72,7 +73,7 @@ fn keys(plan: &Plan, levels: &Table, centres: &Table, level: u32, side: Side) ->
     keys
 }
 
-/// How many bridges have a key below this one.
+/// Returns how many bridges have a key below this one.
 fn count_below(keys: &Table, key: u32) -> u32 {
     let mut count = 0u32;
     for bridge in 1..33u32 {
@@ -83,7 +84,7 @@ fn count_below(keys: &Table, key: u32) -> u32 {
     count
 }
 
-/// Puts the bridges of a level in order, by their neighbours on a side.
+/// Orders the bridges of a level by their neighbours on one side.
 fn reorder(plan: &Plan, levels: &Table, centres: &mut Table, level: u32, side: Side) {
     let keys = keys(plan, levels, centres, level, side);
     let count = count_below(&keys, NOWHERE);
@@ -96,10 +97,10 @@ fn reorder(plan: &Plan, levels: &Table, centres: &mut Table, level: u32, side: S
     }
 }
 
-/// Where the middle of each bridge lies, in halves of a box's width: each level is centred.
+/// Returns the middle of each bridge's box, in half steps of a box. Each level is centred.
 ///
-/// Bridges are put where the mean of their neighbours is, level by level, down and up and down again, so that few links
-/// cross.
+/// Bridges move to the mean place of their neighbours, level by level, down, up and down again. This leaves few links
+/// that cross.
 pub(crate) fn centres(plan: &Plan, levels: &Table) -> Table {
     let mut centres = Table::filled(MIDDLE);
     for level in 0..32u32 {

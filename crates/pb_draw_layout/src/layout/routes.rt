@@ -1,4 +1,4 @@
-//! How links run.
+//! The routes of links.
 
 use super::Layout;
 use super::columns::label_width;
@@ -8,17 +8,17 @@ use crate::scene::{Lane, Point, Route};
 use pb_forest::numbered;
 use pb_lan::{LinkPlan, Plan};
 
-/// How far below the upper edge of a box the number of a link's port stands.
+/// The distance of a port's number from the upper edge of a box.
 const NUMBER_BELOW_TOP: u32 = 14;
 
-/// How far above the lower edge.
+/// The distance of a port's number from the lower edge of a box.
 const NUMBER_ABOVE_BOTTOM: u32 = 7;
 
-/// Free room beside the name of a link.
+/// The padding beside the name of a link.
 const BESIDE_LABEL: u32 = 4;
 
 impl Layout {
-    /// Where an end of a link lands at its bridge's box.
+    /// Returns the point at which an end of a link meets its bridge's box.
     fn landing(&self, plan: &Plan, link: &LinkPlan, number: u8, side: Side) -> Point {
         let bridge = match side {
             Side::A => link.a.bridge,
@@ -35,7 +35,7 @@ impl Layout {
         }
     }
 
-    /// How a link runs between two points on two levels, one below the other or the same.
+    /// Returns the route of a link between two adjacent levels, or between two bridges of one level.
     fn direct(&self, link: &LinkPlan, number: u8, a: Point, b: Point) -> Route {
         let level = upper_level(&self.columns.levels, link);
         let track = track_of(self.stretches.as_slice(), number as u32, false);
@@ -111,7 +111,7 @@ impl Layout {
         }
     }
 
-    /// The middle of the number of a link's port, which stands in the bridge's box.
+    /// Returns the middle of the number of a link's port, inside the bridge's box.
     fn port_number(&self, link: &LinkPlan, side: Side, landing: Point) -> Point {
         let y = if lands_on_top(&self.columns.levels, link, side) {
             landing.y.saturating_add(NUMBER_BELOW_TOP)
@@ -121,7 +121,7 @@ impl Layout {
         Point { x: landing.x, y }
     }
 
-    /// How a link runs.
+    /// Returns the route of the link with a number.
     pub(crate) fn route(&self, plan: &Plan, number: u8) -> Route {
         let Some(link) = numbered(plan.links.as_slice(), number as usize) else {
             return nowhere();
@@ -136,12 +136,12 @@ impl Layout {
     }
 }
 
-/// Half of the width of a link's name, with room beside it.
+/// Returns half the width of a link's name, with its padding.
 fn label_half(link: &LinkPlan) -> u32 {
     (label_width(link) / 2).saturating_add(BESIDE_LABEL)
 }
 
-/// The middle of the curve between two points that bends so far down.
+/// Returns the middle of the curve between two points, with both control points at the height `bend`.
 fn middle(a: Point, b: Point, bend: u32) -> Point {
     let between = a.x.min(b.x).saturating_add(a.x.abs_diff(b.x) / 2);
     let ends = a.y.saturating_add(b.y);
@@ -151,7 +151,7 @@ fn middle(a: Point, b: Point, bend: u32) -> Point {
     }
 }
 
-/// A way of no length.
+/// Returns a route of no length.
 fn nowhere() -> Route {
     let corner = Point { x: 0, y: 0 };
     Route {

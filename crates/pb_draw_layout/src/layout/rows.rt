@@ -1,34 +1,34 @@
-//! Where things stand from the top down.
+//! The vertical positions.
 
 use super::columns::{Columns, MARGIN};
 use super::tracks::{Stretch, depths};
 use crate::table::{Table, number_at};
 use pb_lan::Plan;
 
-/// What a box is high without ports.
+/// The height of a box without ports.
 const BARE_HEIGHT: u32 = 48;
 
-/// What each port adds.
+/// The height of a port's line in a box.
 pub(crate) const PORT_HEIGHT: u32 = 16;
 
-/// From one depth of links to the next.
+/// The distance from one track of links to the next.
 const DEPTH: u32 = 24;
 
-/// Free room above and below the links between two levels.
+/// The distance of the links from the levels above and below.
 const BESIDE: u32 = 20;
 
-/// Where levels stand from the top down.
+/// The vertical positions.
 #[derive(Clone, Copy)]
 pub(crate) struct Rows {
-    /// By level, its upper edge.
+    /// The upper edge of each level.
     pub tops: Table,
-    /// By level, the height of its boxes.
+    /// The height of each level's boxes.
     pub heights: Table,
     /// The lower edge of all.
     pub bottom: u32,
 }
 
-/// How many customer ports a bridge has.
+/// Returns how many customer ports a bridge has.
 fn port_count(plan: &Plan, bridge: u32) -> u32 {
     let mut count = 0u32;
     for customer in plan.customers.as_slice() {
@@ -39,7 +39,7 @@ fn port_count(plan: &Plan, bridge: u32) -> u32 {
     count
 }
 
-/// By level, the height of its boxes; 0 where no bridge stands.
+/// Returns the height of each level's boxes, or 0 for a level without bridges.
 fn heights(plan: &Plan, levels: &Table) -> Table {
     let mut heights = Table::filled(0);
     for (place, _) in plan.bridges.as_slice().iter().enumerate() {
@@ -50,7 +50,7 @@ fn heights(plan: &Plan, levels: &Table) -> Table {
     heights
 }
 
-/// The height of what is between a level and the next one.
+/// Returns the height of the gap between a level and the next one.
 fn gap_below(depths: u32, is_last: bool) -> u32 {
     if depths == 0 && is_last {
         0
@@ -59,7 +59,7 @@ fn gap_below(depths: u32, is_last: bool) -> u32 {
     }
 }
 
-/// Where the levels of a plan stand from the top down.
+/// Computes the vertical positions of a plan's levels.
 pub(crate) fn rows_of(plan: &Plan, columns: &Columns, stretches: &[Stretch]) -> Rows {
     let heights = heights(plan, &columns.levels);
     let depths = depths(stretches);
@@ -82,12 +82,12 @@ pub(crate) fn rows_of(plan: &Plan, columns: &Columns, stretches: &[Stretch]) -> 
 }
 
 impl Rows {
-    /// The lower edge of a level's boxes.
+    /// Returns the lower edge of a level's boxes.
     pub(crate) fn floor(&self, level: u32) -> u32 {
         self.tops.at(level).saturating_add(self.heights.at(level))
     }
 
-    /// The upper edge of what stands below a level: the next level, or the lower edge of all.
+    /// Returns the upper edge of the next level, or the lower edge of all after the last level.
     pub(crate) fn next(&self, level: u32) -> u32 {
         let next = self.tops.at(level.saturating_add(1));
         if self.heights.at(level.saturating_add(1)) == 0 {
@@ -97,7 +97,7 @@ impl Rows {
         }
     }
 
-    /// How far down links of a depth bend below a level.
+    /// Returns the vertical position at which the links of a track bend below a level.
     pub(crate) fn bend(&self, level: u32, track: u32) -> u32 {
         self.floor(level)
             .saturating_add(BESIDE)

@@ -1,43 +1,43 @@
-//! Where on the edges of the boxes links end.
+//! The order of the ends of links at the edges of boxes.
 
 use crate::table::{Table, number_at};
 use pb_lan::{LinkPlan, Plan};
 
-/// Right of all bridges, where a link passes levels that it doesn't end at.
+/// A place right of all bridges, in half steps, toward which links go that pass levels.
 const RIGHT: u32 = 200;
 
-/// Which end of a link.
+/// An end of a link.
 #[derive(Clone, Copy, PartialEq, Eq)]
 pub(crate) enum Side {
     A,
     B,
 }
 
-/// Where a link ends at a bridge's box.
+/// The end of a link at a bridge's box.
 #[derive(Clone, Copy)]
 struct Landing {
     bridge: u32,
-    /// Whether at the upper edge.
+    /// Whether it is at the upper edge.
     is_top: bool,
-    /// What tells the order of the landings at one edge, from left to right.
+    /// The key of the order at one edge, from left to right.
     key: u32,
 }
 
-/// Which of the landings at an edge one is, from 0, and how many there are.
+/// The index of an end at its edge, from 0, and the number of ends there.
 #[derive(Clone, Copy)]
 pub(crate) struct Slot {
     pub index: u32,
     pub count: u32,
 }
 
-/// Whether a link passes levels at which it doesn't end.
+/// Checks whether a link passes levels between those of its bridges.
 pub(crate) fn is_long(levels: &Table, link: &LinkPlan) -> bool {
     let a = levels.at(link.a.bridge as u32);
     let b = levels.at(link.b.bridge as u32);
     a.abs_diff(b) > 1
 }
 
-/// What tells the order of the parallel links of two bridges, so that they do not cross.
+/// Returns the rank of a link among the parallel links of two bridges. Their order avoids crossings.
 fn rank(levels: &Table, centres: &Table, here: u32, there: u32, number: u32) -> u32 {
     let is_nested = levels.at(here) == levels.at(there) && centres.at(there) < centres.at(here);
     if is_nested {
@@ -47,7 +47,7 @@ fn rank(levels: &Table, centres: &Table, here: u32, there: u32, number: u32) -> 
     }
 }
 
-/// Where an end of a link lands.
+/// Returns the landing of an end of a link.
 fn landing_of(
     levels: &Table,
     centres: &Table,
@@ -75,7 +75,7 @@ fn landing_of(
     }
 }
 
-/// A landing is one more at an edge, and maybe left of another.
+/// Counts another landing: at the same edge it is one more, and maybe one further left.
 fn count_landing(slot: &mut Slot, own: Landing, other: Landing) {
     if own.bridge == other.bridge && own.is_top == other.is_top {
         slot.count = slot.count.saturating_add(1);
@@ -85,7 +85,7 @@ fn count_landing(slot: &mut Slot, own: Landing, other: Landing) {
     }
 }
 
-/// Which of the landings at its edge an end of a link is.
+/// Returns the slot of an end of a link among those at the same edge.
 pub(crate) fn slot_of(
     plan: &Plan,
     levels: &Table,
@@ -106,7 +106,7 @@ pub(crate) fn slot_of(
     slot
 }
 
-/// Whether an end of a link lands at the upper edge of its bridge's box.
+/// Checks whether an end of a link is at the upper edge of its bridge's box.
 pub(crate) fn lands_on_top(levels: &Table, link: &LinkPlan, side: Side) -> bool {
     let a = levels.at(link.a.bridge as u32);
     let b = levels.at(link.b.bridge as u32);
@@ -116,13 +116,13 @@ pub(crate) fn lands_on_top(levels: &Table, link: &LinkPlan, side: Side) -> bool 
     }
 }
 
-/// The level above the gap through which a link leaves its upper bridge.
+/// Returns the level of a link's upper bridge.
 pub(crate) fn upper_level(levels: &Table, link: &LinkPlan) -> u32 {
     let a = levels.at(link.a.bridge as u32);
     a.min(levels.at(link.b.bridge as u32))
 }
 
-/// The level of a link's lower bridge.
+/// Returns the level of a link's lower bridge.
 pub(crate) fn lower_level(levels: &Table, link: &LinkPlan) -> u32 {
     let a = levels.at(link.a.bridge as u32);
     a.max(levels.at(link.b.bridge as u32))

@@ -1,4 +1,4 @@
-//! How deep links hang between two levels, so that no two of their names stand in one place.
+//! The tracks of links between two levels. No two names of links overlap.
 
 use super::columns::{Columns, label_width};
 use super::slots::{Side, is_long, lower_level, upper_level};
@@ -7,13 +7,13 @@ use pb_frame::Memory;
 use pb_lan::{LinkPlan, Plan};
 use std::alloc::Global;
 
-/// Free room beside a name or a link.
+/// The padding beside a name or a link.
 const BESIDE: u32 = 8;
 
-/// From one lane to the next, right of all bridges.
+/// The distance from one lane to the next, right of all bridges.
 pub(crate) const LANE: u32 = 18;
 
-/// From here on links get their depths that go down a level.
+/// The first turn of stretches that go down a level. Stretches between bridges of one level have lower turns.
 const FIRST_DOWN: u32 = 1_000_000;
 
 /// A part of a link between two levels.
@@ -23,18 +23,19 @@ pub(crate) struct Stretch {
     pub link: u32,
     /// Whether it is the part above the lower bridge of a link that passes levels.
     pub is_lower: bool,
-    /// The level above.
+    /// The level above it.
     pub level: u32,
-    /// What it takes from left to right, its name with it.
+    /// The left edge of the part and its name.
     pub left: u32,
+    /// The right edge of the part and its name.
     pub right: u32,
-    /// The lower, the sooner it gets its depth.
+    /// Its turn: the part with the lowest turn gets its track first.
     pub turn: u32,
-    /// Its depth, from 0.
+    /// Its track, from 0 for the uppermost.
     pub track: u32,
 }
 
-/// Whether a part of a link stands in the way of another at this depth.
+/// Checks whether a part of a link overlaps another in this track.
 fn is_in_the_way(one: &Stretch, other: &Stretch, track: u32) -> bool {
     one.level == other.level
         && one.track == track
@@ -42,7 +43,7 @@ fn is_in_the_way(one: &Stretch, other: &Stretch, track: u32) -> bool {
         && other.left < one.right
 }
 
-/// The least depth at which nothing stands in the way.
+/// Returns the first track in which no part overlaps this one, or 0 if 128 tracks are taken.
 fn free_track(stretches: &[Stretch], stretch: &Stretch) -> u32 {
     for track in 0..128u32 {
         if !stretches
@@ -55,7 +56,7 @@ fn free_track(stretches: &[Stretch], stretch: &Stretch) -> u32 {
     0
 }
 
-/// Where the lane of a long link lies, by how many there are before.
+/// Returns the horizontal position of a lane, by the number of lanes before it.
 pub(crate) fn lane(columns: &Columns, plan: &Plan, before: u32) -> u32 {
     columns
         .right(plan)
@@ -63,7 +64,7 @@ pub(crate) fn lane(columns: &Columns, plan: &Plan, before: u32) -> u32 {
         .saturating_add(before.saturating_mul(LANE))
 }
 
-/// How many links that pass levels come before one.
+/// Returns how many links that pass levels come before the link with a number.
 pub(crate) fn long_before(columns: &Columns, plan: &Plan, number: u32) -> u32 {
     let mut count = 0u32;
     for (place, link) in plan.links.as_slice().iter().enumerate() {
@@ -74,8 +75,8 @@ pub(crate) fn long_before(columns: &Columns, plan: &Plan, number: u32) -> u32 {
     count
 }
 
-/// When a part gets its depth, by where it leaves its upper bridge and where it goes. Of links that go to the same side
-/// the outer ones bend first, so that they do not cross.
+/// Returns the turn of a part that goes down a level from its upper bridge. Of the parts that go to one side, those
+/// that begin farther on that side come first, which avoids crossings.
 fn turn_of(from: u32, to: u32) -> u32 {
     if from <= to {
         FIRST_DOWN
@@ -86,7 +87,7 @@ fn turn_of(from: u32, to: u32) -> u32 {
     }
 }
 
-/// A part of a link with a name of this width.
+/// Returns a part of a link, with a name of this width.
 fn stretch_between(link: u32, level: u32, from: u32, to: u32, label: u32) -> Stretch {
     let middle = from.min(to).saturating_add(from.abs_diff(to) / 2);
     let half = (label / 2).saturating_add(BESIDE);
@@ -101,7 +102,7 @@ fn stretch_between(link: u32, level: u32, from: u32, to: u32, label: u32) -> Str
     }
 }
 
-/// The part of a link below its upper bridge. Between bridges of one level the shorter ones hang less deep.
+/// Returns the part of a link below its upper bridge. Between bridges of one level the shorter parts come first.
 fn upper_stretch(columns: &Columns, plan: &Plan, link: &LinkPlan, number: u32) -> Stretch {
     let a = columns.landing(plan, link, number, Side::A);
     let b = columns.landing(plan, link, number, Side::B);
@@ -120,7 +121,7 @@ fn upper_stretch(columns: &Columns, plan: &Plan, link: &LinkPlan, number: u32) -
     stretch
 }
 
-/// The part of a link that passes levels above its lower bridge.
+/// Returns the part above its lower bridge of a link that passes levels.
 fn lower_stretch(columns: &Columns, plan: &Plan, link: &LinkPlan, number: u32) -> Stretch {
     let lower = lower_level(&columns.levels, link);
     let side = if columns.levels.at(link.a.bridge as u32) == lower {
@@ -135,14 +136,14 @@ fn lower_stretch(columns: &Columns, plan: &Plan, link: &LinkPlan, number: u32) -
     stretch
 }
 
-/// Puts a part behind others, at the least depth at which nothing stands in the way.
+/// Appends a part in the first track in which no other part overlaps it.
 fn put_stretch(stretches: &mut Vec<Stretch>, mut stretch: Stretch) -> Result<(), Memory> {
     stretch.track = free_track(stretches.as_slice(), &stretch);
     stretches.push(stretch)?;
     Ok(())
 }
 
-/// The parts of all links, without their depths.
+/// Returns the parts of all links, without their tracks.
 fn all_stretches(alloc: Global, columns: &Columns, plan: &Plan) -> Result<Vec<Stretch>, Memory> {
     let mut stretches = Vec::new(alloc);
     for (place, link) in plan.links.as_slice().iter().enumerate() {
@@ -155,7 +156,7 @@ fn all_stretches(alloc: Global, columns: &Columns, plan: &Plan) -> Result<Vec<St
     Ok(stretches)
 }
 
-/// The parts of all links, with their depths.
+/// Returns the parts of all links, with their tracks.
 pub(crate) fn stretches(
     alloc: Global,
     columns: &Columns,
@@ -170,7 +171,7 @@ pub(crate) fn stretches(
     Ok(placed)
 }
 
-/// By level, how many depths there are below it.
+/// Returns the number of tracks below each level.
 pub(crate) fn depths(stretches: &[Stretch]) -> Table {
     let mut depths = Table::filled(0);
     for stretch in stretches {
@@ -179,7 +180,7 @@ pub(crate) fn depths(stretches: &[Stretch]) -> Table {
     depths
 }
 
-/// The depth of a part of a link.
+/// Returns the track of a part of a link.
 pub(crate) fn track_of(stretches: &[Stretch], link: u32, is_lower: bool) -> u32 {
     for stretch in stretches {
         if stretch.link == link && stretch.is_lower == is_lower {

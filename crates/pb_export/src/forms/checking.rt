@@ -5,7 +5,7 @@ use super::shared::{
 };
 use crate::templates::{Form, Kind, ListForm, ListShape, Slot, Template};
 
-/// How many there are of each kind.
+/// The number of bridges, links, services and ports.
 const PLAN: &[Slot] = slots![
     ("bridges", Kind::Number, " links "),
     ("links", Kind::Number, " services "),

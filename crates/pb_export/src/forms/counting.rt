@@ -9,7 +9,7 @@ use crate::templates::{Form, Kind, ListForm, ListShape, Slot, Template};
 /// How a run ended.
 const ENDED: &[Slot] = slots![("ended", Kind::Text, ""),];
 
-/// What a customer port has counted.
+/// The counts of a customer port.
 const PORT: &[Slot] = slots![
     ("name", Kind::Text, " entered "),
     ("entered", Kind::Number, " left "),
@@ -17,7 +17,7 @@ const PORT: &[Slot] = slots![
     ("filtered", Kind::Number, ""),
 ];
 
-/// What a link has counted, from a to b and back.
+/// The counts of a link, from end a to end b and back.
 const LINK: &[Slot] = slots![
     ("name", Kind::Text, " ab taken "),
     ("ab_taken", Kind::Number, " lost "),
@@ -26,13 +26,13 @@ const LINK: &[Slot] = slots![
     ("ba_lost", Kind::Number, ""),
 ];
 
-/// Whether the bridges are settled.
+/// Whether the bridges have converged.
 const SETTLED: &[Slot] = slots![("settled", Kind::OneOf(YES_OR_NO), ""),];
 
 /// The fault of a port's input.
 const PORT_FAULT: &[Slot] = slots![("port", Kind::Text, " "), ("fault", Kind::Number, ""),];
 
-/// The answer to a line of a script.
+/// The reply to a line of a script.
 const ANSWER: &[Slot] = slots![("answer", Kind::Text, ""),];
 
 /// A customer port.
@@ -41,7 +41,7 @@ const PORT_LINE: Template = template!("ports", "port ", PORT);
 /// A link.
 const LINK_LINE: Template = template!("links", "link ", LINK);
 
-/// Whether the bridges are settled.
+/// Whether the bridges have converged.
 const SETTLED_LINE: Template = template!("", "settled ", SETTLED);
 
 /// The lines of a run.
@@ -59,7 +59,7 @@ const RUN_LINES: &[Template] = &[
     OTHER,
 ];
 
-/// The lines that a script is answered.
+/// The lines that reply to a script.
 const STEP_LINES: &[Template] = &[
     PORT_LINE,
     LINK_LINE,
@@ -88,7 +88,7 @@ const RUN_LISTS: &[ListForm] = &[
     OTHERS,
 ];
 
-/// The lists of a script's answers.
+/// The lists of a script's replies.
 const STEP_LISTS: &[ListForm] = &[
     list!("answers", ListShape::Values, &[]),
     PORTS,
@@ -133,7 +133,7 @@ const PORT_CELLS: &[Cell] = &[
     Cell::Fixed(""),
 ];
 
-/// A link from a to b.
+/// A link from end a to end b.
 const AB_CELLS: &[Cell] = &[
     Cell::Fixed("link"),
     Cell::Held("name"),
@@ -145,7 +145,7 @@ const AB_CELLS: &[Cell] = &[
     Cell::Held("ab_lost"),
 ];
 
-/// A link from b to a.
+/// A link from end b to end a.
 const BA_CELLS: &[Cell] = &[
     Cell::Fixed("link"),
     Cell::Held("name"),
@@ -173,7 +173,7 @@ const TABLE_LINES: &[CellRow] = &[
     },
 ];
 
-/// The table of what customer ports and links have counted: a line for each port, and one for each direction of a link.
+/// The table of the counts of customer ports and links: a line for each port, and one for each direction of a link.
 pub const COUNTS: Table = Table {
     titles: TITLES,
     lines: TABLE_LINES,

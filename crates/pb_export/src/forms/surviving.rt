@@ -4,38 +4,38 @@ use super::shared::{FAULT, NAMED_PLAN_FAULT, OTHER, OTHERS, PLAN_FAULT, PLAN_FAU
 use crate::tables::{Cell, CellRow, Table};
 use crate::templates::{Choice, Form, Kind, ListForm, ListShape, Said, Slot, Template};
 
-/// What is down.
+/// A link or a bridge is down.
 const ONE_DOWN: &[Choice] = choices![
     ("link ", Said::Word("link")),
     ("bridge ", Said::Word("bridge")),
 ];
 
-/// Two links are.
+/// Two links are down.
 const TWO_DOWN: &[Choice] = choices![("links ", Said::Word("links")),];
 
-/// Whether the bridges settled.
+/// Whether the bridges converged.
 const SETTLED: &[Choice] = choices![
     ("settled ticks ", Said::Yes),
     ("not settled ticks ", Said::No),
 ];
 
-/// No failure parts a service.
+/// No failure disconnects a service.
 const SURVIVES: &[Choice] = choices![("every single failure", Said::Yes),];
 
-/// Some do.
+/// Some failures disconnect a service.
 const PARTS: &[Choice] = choices![(" failures part a service", Said::No),];
 
-/// With nothing down.
+/// The network with nothing down.
 const CALM: &[Slot] = slots![
     ("settled", Kind::OneOf(SETTLED), ""),
     ("ticks", Kind::Number, " forest "),
     ("forest", Kind::OneOf(YES_OR_NO), ""),
 ];
 
-/// With nothing down, where the plan gives the states.
+/// The network with nothing down, if the plan gives the states.
 const CALM_GIVEN: &[Slot] = slots![("forest", Kind::OneOf(YES_OR_NO), ""),];
 
-/// With one down.
+/// One link or bridge is down.
 const ONE: &[Slot] = slots![
     ("down", Kind::OneOf(ONE_DOWN), ""),
     ("name", Kind::Text, " down: "),
@@ -44,14 +44,14 @@ const ONE: &[Slot] = slots![
     ("forest", Kind::OneOf(YES_OR_NO), ""),
 ];
 
-/// With one down, where the plan gives the states.
+/// One link or bridge is down, and the plan gives the states.
 const ONE_GIVEN: &[Slot] = slots![
     ("down", Kind::OneOf(ONE_DOWN), ""),
     ("name", Kind::Text, " down: states given forest "),
     ("forest", Kind::OneOf(YES_OR_NO), ""),
 ];
 
-/// With two down.
+/// Two links are down.
 const TWO: &[Slot] = slots![
     ("down", Kind::OneOf(TWO_DOWN), ""),
     ("name", Kind::Text, " "),
@@ -61,7 +61,7 @@ const TWO: &[Slot] = slots![
     ("forest", Kind::OneOf(YES_OR_NO), ""),
 ];
 
-/// With two down, where the plan gives the states.
+/// Two links are down, and the plan gives the states.
 const TWO_GIVEN: &[Slot] = slots![
     ("down", Kind::OneOf(TWO_DOWN), ""),
     ("name", Kind::Text, " "),
@@ -69,7 +69,7 @@ const TWO_GIVEN: &[Slot] = slots![
     ("forest", Kind::OneOf(YES_OR_NO), ""),
 ];
 
-/// A service whose active links close a ring.
+/// A service whose active links form a loop.
 const RING: &[Slot] = slots![("service", Kind::Text, ""),];
 
 /// The ports of a service, in groups that reach each other.
@@ -81,7 +81,7 @@ const CUT_OFF: &[Slot] = slots![
     ("from", Kind::Words, ""),
 ];
 
-/// How many failures part nothing.
+/// How many failures have no effect, and the most ticks to convergence after them.
 const QUIET: &[Slot] = slots![
     ("part_nothing", Kind::Number, " of "),
     (
@@ -92,20 +92,20 @@ const QUIET: &[Slot] = slots![
     ("most_ticks", Kind::Number, ""),
 ];
 
-/// How many part a service.
+/// How many failures disconnect a service.
 const PARTING: &[Slot] = slots![
     ("part_a_service", Kind::Number, " of "),
     ("failures_tried", Kind::Number, ""),
     ("survives", Kind::OneOf(PARTS), ""),
 ];
 
-/// None does.
+/// That no failure disconnects a service.
 const SURVIVING: &[Slot] = slots![("survives", Kind::OneOf(SURVIVES), ""),];
 
-/// The plan lacks the service of a name.
+/// The plan lacks the service with a name.
 const NO_SERVICE: &[Slot] = slots![("service", Kind::Text, ""),];
 
-/// The plan lacks the customer port of a name.
+/// The plan lacks the customer port with a name.
 const NO_PORT: &[Slot] = slots![("port", Kind::Text, ""),];
 
 /// The lines.
@@ -172,7 +172,7 @@ const TABLE_LINES: &[CellRow] = &[CellRow {
     cells: CELLS,
 }];
 
-/// The table of the failures that are told: a line for each.
+/// The table of the failures in the report: a line for each.
 pub const FAILURES: Table = Table {
     titles: TITLES,
     lines: TABLE_LINES,

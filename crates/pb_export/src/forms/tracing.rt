@@ -11,7 +11,7 @@ const FROM: &[Choice] = choices![("from ", Said::Word("received")),];
 /// A bridge sent a frame.
 const TO: &[Choice] = choices![("to ", Said::Word("sent")),];
 
-/// What a bridge learnt from it.
+/// What the bridge learnt from the frame.
 const SOURCES: &[Choice] = choices![
     (", source learnt", Said::Word("learnt")),
     (", source known", Said::Word("known")),
@@ -22,7 +22,7 @@ const SOURCES: &[Choice] = choices![
     ("", Said::Nothing),
 ];
 
-/// Why it goes where it goes.
+/// Why the frame is sent where it is.
 const WAYS: &[Choice] = choices![
     (", known", Said::Word("known")),
     (", flooded", Said::Word("flooded")),
@@ -30,19 +30,19 @@ const WAYS: &[Choice] = choices![
     ("", Said::Nothing),
 ];
 
-/// It was relayed.
+/// The frame was relayed.
 const RELAYED: &[Choice] = choices![("relayed", Said::Word("relayed")),];
 
-/// It was filtered.
+/// The frame was filtered.
 const FILTERED: &[Choice] = choices![("filtered ", Said::Word("filtered")),];
 
-/// It came without a tag.
+/// The frame has no tag.
 const BARE: &[Choice] = choices![("untagged", Said::Yes),];
 
-/// Its tag came off.
+/// The tag was removed.
 const TAKEN_OFF: &[Choice] = choices![("taken off", Said::Word("taken off")),];
 
-/// Its tag was put on.
+/// The tag was added.
 const PUT_ON: &[Choice] = choices![("put on", Said::Yes),];
 
 /// A direction of a link.
@@ -54,10 +54,10 @@ const PASSAGES: &[Choice] = choices![
     ("lost ", Said::Word("lost")),
 ];
 
-/// It left the network.
+/// The frame was delivered.
 const DELIVERED: &[Choice] = choices![("delivered ", Said::Word("delivered")),];
 
-/// A frame that a bridge received, with this said of its tag, and relayed.
+/// The slots of a frame that a bridge received and relayed, with these slots for its tag.
 macro_rules! relayed {
     ($($tag:tt),+) => {
         slots![
@@ -76,7 +76,7 @@ macro_rules! relayed {
     };
 }
 
-/// A frame that a bridge received, with this said of its tag, and filtered.
+/// The slots of a frame that a bridge received and filtered, with these slots for its tag.
 macro_rules! filtered {
     ($($tag:tt),+) => {
         slots![
@@ -94,7 +94,7 @@ macro_rules! filtered {
     };
 }
 
-/// A frame that a bridge sent, with the text behind where it went, and this said of its tag.
+/// The slots of a frame that a bridge sent, with the text after the next place, and these slots for its tag.
 macro_rules! sent {
     ($until:literal $(, $tag:tt)*) => {
         slots![
@@ -122,7 +122,7 @@ const SERVICE_FILTERED: &[Slot] = filtered![
     ("priority", Kind::Number, "")
 ];
 
-/// A frame whose priority tag came off that was relayed.
+/// A frame that was relayed, and whose priority tag was removed.
 const TAGGED_RELAYED: &[Slot] = relayed![
     ("service", Kind::Text, " vid "),
     ("vid", Kind::Number, " priority "),
@@ -130,7 +130,7 @@ const TAGGED_RELAYED: &[Slot] = relayed![
     ("tag_taken_off", Kind::Text, " taken off")
 ];
 
-/// A frame whose priority tag came off that was filtered.
+/// A frame that was filtered, and whose priority tag was removed.
 const TAGGED_FILTERED: &[Slot] = filtered![
     ("service", Kind::Text, " vid "),
     ("vid", Kind::Number, " priority "),
@@ -138,16 +138,16 @@ const TAGGED_FILTERED: &[Slot] = filtered![
     ("tag_taken_off", Kind::Text, " taken off")
 ];
 
-/// A frame over a link without a tag that was relayed.
+/// An untagged frame from a link that was relayed.
 const UNTAGGED_RELAYED: &[Slot] = relayed![("untagged", Kind::OneOf(BARE), "")];
 
-/// A frame over a link without a tag that was filtered.
+/// An untagged frame from a link that was filtered.
 const UNTAGGED_FILTERED: &[Slot] = filtered![("untagged", Kind::OneOf(BARE), "")];
 
-/// A bridge sent a frame, whose tag came off.
+/// A bridge sent a frame without its tag.
 const SENT_BARE: &[Slot] = sent![", tag ", ("tag", Kind::OneOf(TAKEN_OFF), "")];
 
-/// A bridge sent a frame, whose tag was put on.
+/// A bridge sent a frame with a new tag.
 const SENT_FIRST: &[Slot] = sent![
     ", tag ",
     ("tag", Kind::Text, " "),
@@ -169,7 +169,7 @@ const TOOK: &[Slot] = slots![
     ("number", Kind::Number, ""),
 ];
 
-/// A frame left the network.
+/// A customer port delivered a frame.
 const LEFT: &[Slot] = slots![
     ("depth", Kind::Depth, ""),
     ("port", Kind::Text, ": "),
@@ -177,7 +177,7 @@ const LEFT: &[Slot] = slots![
     ("frame", Kind::Text, ""),
 ];
 
-/// A frame came in.
+/// A frame was injected.
 const ENTERED: &[Slot] = slots![
     ("frame", Kind::Text, ": polled "),
     ("port", Kind::Text, " "),
@@ -187,13 +187,13 @@ const ENTERED: &[Slot] = slots![
 /// Other events were due.
 const BESIDES: &[Slot] = slots![("others", Kind::Number, ""),];
 
-/// A frame goes round.
+/// A frame is in a forwarding loop.
 const ROUND: &[Slot] = slots![
     ("goes_round_over", Kind::Words, "; ended after "),
     ("events", Kind::Number, " events"),
 ];
 
-/// What became of all frames.
+/// The summary of all frames.
 const SUMMARY: &[Slot] = slots![
     ("left_at", Kind::Words, "; refused "),
     ("refused", Kind::Number, "; lost "),

@@ -6,7 +6,7 @@ use super::shared::{
 };
 use crate::templates::{Form, Kind, ListForm, ListShape, Slot, Template};
 
-/// A bridge below the root.
+/// A bridge with a Root port.
 const BELOW: &[Slot] = slots![
     ("name", Kind::Text, " root "),
     ("root", Kind::Text, " cost "),
@@ -21,7 +21,7 @@ const ROOT: &[Slot] = slots![
     ("cost", Kind::Number, ""),
 ];
 
-/// A bridge whose states the plan gives.
+/// A bridge of a plan that gives the states.
 const BRIDGE: &[Slot] = slots![("name", Kind::Text, ""),];
 
 /// A port to another bridge.
@@ -35,7 +35,7 @@ const PORT: &[Slot] = slots![
     ("from", Kind::Text, ""),
 ];
 
-/// A port whose state the plan gives.
+/// A port of a plan that gives the states.
 const GIVEN_PORT: &[Slot] = slots![
     ("bridge", Kind::Text, " "),
     ("port", Kind::Number, " link "),

@@ -1,4 +1,4 @@
-//! Reports, and what their documents say.
+//! Reports with their documents.
 
 use super::Said;
 

@@ -1,4 +1,4 @@
-//! Pictures of plan files.
+//! The pictures of plan files.
 
 ghost use Rattle.std.specs.Prelude.{◌≡◌, ◌⊎◌, IfOk};
 ghost use Rattle.pb_cmd_draw.specs.Draws.{HasWritten};
@@ -16,17 +16,17 @@ use std::io::Write;
 use std::process::Abort;
 use std::test::Fail;
 
-/// What is asked of a plan: the service that stands out, the ports that go down, the most ticks, and the form.
+/// The options: the service to highlight, the ports to disable, the most ticks, and the format.
 type Question = (Option<&'static str>, &'static [&'static str], u32, Format);
 
-/// A plan file, what is asked of it, how it ends, and what pieces are written how often.
+/// A plan file, the options, the end, and the pieces of the picture with their counts.
 type Row = (&'static str, Question, DrawEnd, &'static [Piece]);
 
 const SVG: Format = Format::Svg;
 
 const DOT: Format = Format::Dot;
 
-/// Words as they stand on a command line.
+/// Returns arguments as they are on a command line.
 fn words_of(alloc: Global, texts: &[&str]) -> Result<Vec<String>, AllocError> {
     let mut words = Vec::new(alloc);
     for text in texts {
@@ -35,7 +35,7 @@ fn words_of(alloc: Global, texts: &[&str]) -> Result<Vec<String>, AllocError> {
     Ok(words)
 }
 
-/// Whether the pieces stand in a text, each so often. Where there are none, the text is empty.
+/// Checks that each piece is in a text as often as its count, and that the text is empty if there are no pieces.
 fn has_pieces(rt: &impl Abort, number: usize, text: &str, pieces: &[Piece]) {
     assert_eq!(rt; text.is_empty(), pieces.is_empty(), "row {number}");
     for (piece, wanted) in pieces {
@@ -44,7 +44,7 @@ fn has_pieces(rt: &impl Abort, number: usize, text: &str, pieces: &[Piece]) {
     }
 }
 
-/// What a caller may take from `run_draw`: what was written of the plan that the file tells, or the rule that it
+/// Calls `run_draw` with what a caller may conclude: what is written for the plan in the file, or the rule that it
 /// breaks.
 fn drawn<W: Write>(
     alloc: Global,
@@ -58,7 +58,7 @@ fn drawn<W: Write>(
     run_draw(alloc, file, asked, writer)
 }
 
-/// The rows come out as they are told.
+/// Checks the end and the picture of each row.
 fn draws(rt: &impl Abort, alloc: Global, rows: &[Row]) -> Result<(), Fail> {
     for (number, (plan, question, end, pieces)) in rows.iter().enumerate() {
         let (service, downs, ticks, format) = *question;

@@ -1,4 +1,4 @@
-//! Networks of plan files that are driven until nothing is due, and until their bridges have settled.
+//! Networks of plan files that are driven until nothing is due, or to convergence.
 
 ghost use Rattle.std.specs.Prelude.{◌≡◌};
 ghost use Rattle.pb_lan.specs.Plans.{IsSound};
@@ -16,7 +16,7 @@ use std::test::Fail;
 /// A broadcast of sixteen octets.
 const BROADCAST: &[u8] = &[255, 255, 255, 255, 255, 255, 2, 0, 0, 0, 1, 1, 8, 0, 65, 66];
 
-/// Two bridges that a link joins, each with a customer port, whose places take at most two steps each.
+/// Two bridges that a link joins, each with a customer port. Each place takes at most two steps.
 const SHORT: &str = "\
 network = { steps = 2 }
 bridge = [{ name = \"B1\", address = \"02-00-00-00-00-01\" }, { name = \"B2\", address = \"02-00-00-00-00-02\" }]
@@ -26,12 +26,12 @@ port = [{ name = \"C1\", bridge = \"B1\", port = 2, service = \"red\" }, { name 
 service = \"red\" }]
 ";
 
-/// What is done to a network, and what is answered.
+/// An action on a network, with its result.
 #[derive(Clone, Copy, Debug)]
 enum Row {
-    /// A broadcast comes in at a customer port.
+    /// A broadcast is injected at a customer port.
     Enters(u8),
-    /// A port to another bridge goes down.
+    /// A port to another bridge is disabled.
     Falls(u8, u8),
     /// At most so many events are done.
     Drains(u64, Result<u64, DriveFault>),
@@ -39,7 +39,7 @@ enum Row {
     Settles(u32, u64, Result<Rest, DriveFault>),
 }
 
-/// A broadcast comes in at a customer port; whether it did.
+/// Injects a broadcast at a customer port, and returns whether that was accepted.
 fn enters(alloc: Global, net: &mut Net, port: u8) -> Result<bool, AllocError>
     ensures { net.new.plan ≡ net.old.plan }
 {
@@ -47,7 +47,7 @@ fn enters(alloc: Global, net: &mut Net, port: u8) -> Result<bool, AllocError>
     Ok(net.step(Event::Poll { port, frame }).is_ok())
 }
 
-/// A port to another bridge goes down; whether it did.
+/// Disables a port to another bridge, and returns whether that was accepted.
 fn falls(net: &mut Net, bridge: u8, port: u8) -> bool
     ensures { net.new.plan ≡ net.old.plan }
 {
@@ -55,7 +55,7 @@ fn falls(net: &mut Net, bridge: u8, port: u8) -> bool
     net.step(Event::Admin { bridge, port, up }).is_ok()
 }
 
-/// Whether a row is answered so.
+/// Performs the action of a row, and returns whether the result is the expected one.
 fn holds(alloc: Global, net: &mut Net, plan: &Plan, row: Row) -> Result<bool, AllocError>
     requires sound { IsSound plan.now }
     requires plan { net.old.plan ≡ plan.now }
@@ -69,7 +69,7 @@ fn holds(alloc: Global, net: &mut Net, plan: &Plan, row: Row) -> Result<bool, Al
     })
 }
 
-/// The network of a plan file goes through the rows.
+/// Checks all rows, in order, on the network of a plan file.
 fn goes(rt: &impl Abort, alloc: Global, file: &[u8], rows: &[Row]) -> Result<(), Fail> {
     let Ok((plan, _ports)) = read_plan(alloc, file) else {
         panic!(rt; "no plan");
@@ -84,14 +84,14 @@ fn goes(rt: &impl Abort, alloc: Global, file: &[u8], rows: &[Row]) -> Result<(),
     Ok(())
 }
 
-/// The network of a plan to begin with goes through the rows.
+/// Checks all rows on the network of a starter plan.
 fn begins(rt: &impl Abort, alloc: Global, topology: Topology, rows: &[Row]) -> Result<(), Fail> {
     let mut file = Vec::new(alloc);
     assert_eq!(rt; write_plan(alloc, topology, &mut file), Ok(()));
     goes(rt, alloc, file.as_slice(), rows)
 }
 
-/// From C1 over the link to C2: Feed, Receive, Transmit, Take, Put, Receive, Transmit, Deliver.
+/// Checks a frame from C1 over the link to C2: Feed, Receive, Transmit, Take, Put, Receive, Transmit, Deliver.
 #[test]
 fn a_frame_goes_as_far_as_it_goes(rt: HostRuntime) -> Result<(), Fail> {
     const ROWS: &[Row] = &[
@@ -112,7 +112,7 @@ fn a_frame_goes_as_far_as_it_goes(rt: HostRuntime) -> Result<(), Fail> {
     begins(&rt, rt.alloc(), Topology::Line(2), ROWS)
 }
 
-/// A bridge takes two steps for a frame: the third is that of the frame that comes back.
+/// Checks the limit on steps. A bridge takes two steps for a frame; the third is due for the frame that comes back.
 #[test]
 fn a_place_has_so_many_steps(rt: HostRuntime) -> Result<(), Fail> {
     const ROWS: &[Row] = &[
@@ -124,14 +124,14 @@ fn a_place_has_so_many_steps(rt: HostRuntime) -> Result<(), Fail> {
     goes(&rt, rt.alloc(), SHORT.as_bytes(), ROWS)
 }
 
-/// What the root tells crosses a small ring within a tick. In a ring of 32 bridges better and better roots come by, and
-/// a port sends six BPDUs a tick at most, so that it takes some ticks.
+/// Checks the ticks to convergence. The root's BPDUs cross a small ring within a tick. In a ring of 32 bridges better
+/// roots arrive one after the other, and a port sends at most six BPDUs in a tick; this takes more ticks.
 #[test]
 fn rings_settle(rt: HostRuntime) -> Result<(), Fail> {
     for (bridges, ticks) in [(3u8, 2), (6, 2), (32, 14)] {
         let rows = [
             Row::Settles(200, 1_000_000, Ok(Rest::Settled(ticks))),
-            // The far end isn't told, and the ring mends itself.
+            // The far end gets no sign of it, and the ring converges again.
             Row::Falls(1, 1),
             Row::Settles(200, 1_000_000, Ok(Rest::Settled(2))),
         ];
@@ -140,7 +140,8 @@ fn rings_settle(rt: HostRuntime) -> Result<(), Fail> {
     Ok(())
 }
 
-/// A network that has ticked once needs one tick less, but is to be settled after two in a row all the same.
+/// Checks the limit on ticks. A network that has ticked once needs one tick less, but at least two: it must be settled
+/// after two ticks in a row.
 #[test]
 fn ticks_have_a_limit(rt: HostRuntime) -> Result<(), Fail> {
     for (bridges, ticks) in [(3u8, 2), (6, 2), (32, 13)] {
@@ -159,7 +160,7 @@ fn ticks_have_a_limit(rt: HostRuntime) -> Result<(), Fail> {
     Ok(())
 }
 
-/// The first BPDUs of three bridges are more than three events.
+/// Checks the limit on events. The first BPDUs of three bridges are more than three events.
 #[test]
 fn events_have_a_limit(rt: HostRuntime) -> Result<(), Fail> {
     const ROWS: &[Row] = &[Row::Settles(200, 3, Err(DriveFault::Events))];

@@ -1,4 +1,4 @@
-//! What is left of networks under failures.
+//! The reports on networks under failures.
 
 mod counted;
 mod draft;
@@ -21,7 +21,7 @@ const LINKS: Kinds = Kinds {
     pairs: false,
 };
 
-/// Single links and two links.
+/// Single links and pairs of links.
 const PAIRS: Kinds = Kinds {
     bridges: false,
     pairs: true,
@@ -33,7 +33,7 @@ const BRIDGES: Kinds = Kinds {
     pairs: false,
 };
 
-/// What is asked of a network, and what is written with which exit status.
+/// A network and the options, with the text and the exit status.
 #[derive(Drop)]
 struct Row<'a> {
     draft: &'a Draft<'a>,
@@ -44,7 +44,7 @@ struct Row<'a> {
     text: &'a str,
 }
 
-/// A network's report is as it should be, each time.
+/// Checks the report on a network and its exit status, twice.
 fn says<R: Abort + Threads + Sync>(rt: &R, alloc: Global, row: &Row<'_>) -> Result<(), Fail> {
     let file = plan_file(alloc, row.draft)?;
     let asked = Asked {
@@ -63,7 +63,7 @@ fn says<R: Abort + Threads + Sync>(rt: &R, alloc: Global, row: &Row<'_>) -> Resu
     Ok(())
 }
 
-/// A row over `red`, with ticks enough.
+/// Returns a row for the service `red`, with enough ticks.
 fn over_red<'a>(draft: &'a Draft<'a>, kinds: Kinds, status: u8, text: &'a str) -> Row<'a> {
     Row {
         draft,
@@ -195,7 +195,7 @@ fn what_is_lacking_is_told(rt: HostRuntime) -> Result<(), Fail> {
     Ok(())
 }
 
-/// What is asked of files that are no plans.
+/// The options for a file whose network does not matter.
 const ANY: Asked = Asked {
     kinds: LINKS,
     scope: Scope::All,

@@ -3,7 +3,7 @@ use Rattle.pb_cmd_survive.proofs.WalkLemmas.{CloseFirst, MarkJoined}
 use Rattle.pb_cmd_survive.specs.Reach.{mark_at}
 use Rattle.pb_cmd_survive.proofs.marks.marks.Given as goal
 
--- bridges with one mark are joined, and the links so far are closed
+-- bridges with one mark are joined, and the active links so far have one mark at both ends
 abbrev pub invariant-loop-link : goal.invariant-loop-link
 invariant-loop-link l = record {
   sound : MarkJoined l.plan l.shape l.vid l.marks;

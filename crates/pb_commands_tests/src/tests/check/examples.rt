@@ -1,4 +1,4 @@
-//! The examples of `check` and `show`, as their files have them.
+//! The examples of `check` and `show`, as in their files.
 
 /// A plan file with a port of each kind.
 pub(super) const PLAN_FILE: &str = r#"[network]
@@ -52,12 +52,12 @@ kind = "socket"
 path = "c3.sock"
 "#;
 
-/// What `check` tells of it.
+/// The text of `check` for it.
 pub(super) const PLAN_FILE_ANSWER: &str = r#"ok bridges 2 links 1 services 2 ports 3
 forest yes
 "#;
 
-/// What `show` tells.
+/// The text of `show`.
 pub(super) const SHOWN: &str = r#"01-80-C2-00-00-00 carry
 01-80-C2-00-00-01 filter
 01-80-C2-00-00-02 filter

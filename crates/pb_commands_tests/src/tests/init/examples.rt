@@ -1,4 +1,4 @@
-//! The example of `init`, as its file has it.
+//! The example of `init`, as in its file.
 
 /// Two bridges in a line.
 pub(super) const INIT: &str = r#"# A plan for pbnet. With this in a file FILE,

@@ -1,4 +1,4 @@
-//! The example `e-line`, as its three files have it.
+//! The example `e-line`, as in its three files.
 
 /// The plan file.
 pub(super) const PLAN: &str =

@@ -1,4 +1,4 @@
-//! The example `parallel`, as its three files have it.
+//! The example `parallel`, as in its three files.
 
 /// The plan file.
 pub(super) const PLAN: &str =

@@ -1,4 +1,4 @@
-//! The example `settling`, as its three files have it.
+//! The example `settling`, as in its three files.
 
 /// The plan file.
 pub(super) const PLAN: &str =

@@ -1,4 +1,4 @@
-//! The example `two-bridges`, as its three files have it.
+//! The example `two-bridges`, as in its three files.
 
 /// The plan file.
 pub(super) const PLAN: &str =

@@ -12,7 +12,7 @@ port = [
 ]
 ";
 
-/// The same, where the far end of the link carries no service, and C1 has priority 3.
+/// Two bridges with a link whose far end carries no service. C1 has priority 3.
 pub(super) const UNSERVED: &str = "\
 bridge = [{ name = \"B1\", address = \"02-00-00-00-00-01\" }, { name = \"B2\", address = \"02-00-00-00-00-02\" }]
 link = [{ name = \"L1\", a = \"B1\", a_port = 1, b = \"B2\", b_port = 1, b_services = [] }]
@@ -34,7 +34,7 @@ port = [
 ]
 ";
 
-/// Three bridges in a ring that is closed.
+/// Three bridges in a ring with a forwarding loop.
 pub(super) const RING: &str = "\
 bridge = [
   { name = \"B1\", address = \"02-00-00-00-00-01\" },
@@ -50,7 +50,7 @@ service = [{ name = \"red\", vid = 100 }]
 port = [{ name = \"C1\", bridge = \"B1\", port = 3, service = \"red\" }]
 ";
 
-/// The same, where one frame waits at each port at most.
+/// The same ring, with queues of one frame.
 pub(super) const NARROW_RING: &str = "\
 bridge = [
   { name = \"B1\", address = \"02-00-00-00-00-01\", queue = 1 },

@@ -1,9 +1,9 @@
-//! Trees that the standard draws.
+//! Spanning trees of the standard.
 //!
-//! Whose they are: the wirings, the roles and the costs are figures 17-4 to 17-7 of IEEE 802.1D-2004 and two series of
-//! failures, as the public tests of Open vSwitch's rapid spanning tree hold them. None comes from our program. A
-//! Designated port whose neighbour is down is Discarding when the bridges have settled: nobody agrees to it, and so it
-//! waits two forward delays, 30 ticks.
+//! The wirings, the roles and the costs are those of figures 17-4 to 17-7 of IEEE 802.1D-2004 and of two series of
+//! failures, as in the public tests of Open vSwitch's rapid spanning tree. None comes from this program. A Designated
+//! port whose neighbour is disabled is Discarding after convergence: nobody agrees to its proposal, and it waits two
+//! forward delays, 30 ticks.
 
 pub(super) const ONE: &str = "\
 network = { spanning = \"rstp\" }\n\

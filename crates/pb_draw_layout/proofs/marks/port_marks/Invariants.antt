@@ -4,7 +4,7 @@ use Rattle.pb_draw_layout.specs.Facts.{port_facts}
 use Rattle.pb_draw_layout.specs.declared.scene.PortMark.{PortMark}
 use Rattle.pb_draw_layout.proofs.marks.port_marks.Given as goal
 
--- the facts so far, and those of the numbers from here on, are the facts of all
+-- the facts so far, then those of the numbers from here on, are the facts of all
 abbrev pub invariant-loop-place : goal.invariant-loop-place
 invariant-loop-place l =
     map (λ (m : PortMark). m.facts) l.marks.items

@@ -1,4 +1,4 @@
-//! That no box and no name of a link hides another.
+//! Boxes and names of links do not overlap.
 
 use super::plans;
 use pb_cmd_draw::{BridgeMark, LinkMark, Scene, scene_of};
@@ -12,26 +12,26 @@ use std::test::Fail;
 #[derive(Clone, Copy, Debug)]
 struct Area(u64, u64, u64, u64);
 
-/// What the box of a bridge takes.
+/// Returns the area of a bridge's box.
 fn area_of_box(mark: &BridgeMark) -> Area {
     let (left, top) = (mark.corner.x as u64, mark.corner.y as u64);
     let (width, height) = (mark.size.x as u64, mark.size.y as u64);
     Area(left, top, left + width, top + height)
 }
 
-/// What the name of a link takes.
+/// Returns the area of a link's name.
 fn area_of_name(mark: &LinkMark) -> Area {
     let half = mark.route.label_half as u64;
     let (x, y) = (mark.route.label.x as u64, mark.route.label.y as u64);
     Area(x.saturating_sub(half), y.saturating_sub(7), x + half, y + 7)
 }
 
-/// Whether two rectangles have nothing in common.
+/// Checks whether two rectangles have nothing in common.
 fn are_apart(one: Area, other: Area) -> bool {
     one.2 <= other.0 || other.2 <= one.0 || one.3 <= other.1 || other.3 <= one.1
 }
 
-/// What all boxes and names take.
+/// Returns the areas of all boxes and names.
 fn areas(alloc: Global, scene: &Scene) -> Result<Vec<Area>, Fail> {
     let mut areas = Vec::new(alloc);
     for mark in scene.bridges.as_slice() {
@@ -43,7 +43,7 @@ fn areas(alloc: Global, scene: &Scene) -> Result<Vec<Area>, Fail> {
     Ok(areas)
 }
 
-/// All boxes and names of a scene are apart, and within the picture.
+/// Checks that no two boxes or names of a scene overlap, and that all are within the picture.
 fn are_all_apart(rt: &impl Abort, alloc: Global, scene: &Scene) -> Result<(), Fail> {
     let areas = areas(alloc, scene)?;
     let (width, height) = (scene.size.x as u64, scene.size.y as u64);
@@ -59,7 +59,7 @@ fn are_all_apart(rt: &impl Abort, alloc: Global, scene: &Scene) -> Result<(), Fa
     Ok(())
 }
 
-/// The scene of a plan file, with the states at the start.
+/// Returns the scene of a plan file, with the states at the start.
 fn scene(rt: &impl Abort, alloc: Global, file: &str) -> Result<Scene, Fail> {
     let Ok((plan, _ports)) = read_plan(alloc, file.as_bytes()) else {
         panic!(rt; "no plan: {file}");
@@ -68,8 +68,8 @@ fn scene(rt: &impl Abort, alloc: Global, file: &str) -> Result<Scene, Fail> {
     Ok(scene_of(alloc, &plan, &shape, None)?)
 }
 
-/// A plan file in which bridge K, from 1, is joined to each of `ahead` bridges behind it, all with the states of a
-/// tree: only the first of these links forwards.
+/// Returns a plan file with `bridges - 1` bridges, each of which is joined to the next `ahead - 1` ones. Only the first
+/// of these links is Forwarding at both ends.
 fn plan_of(alloc: Global, bridges: usize, ahead: usize) -> Result<String, Fail> {
     let mut text = String::new(alloc);
     for number in 1..bridges {
@@ -82,7 +82,7 @@ fn plan_of(alloc: Global, bridges: usize, ahead: usize) -> Result<String, Fail> 
     Ok(text)
 }
 
-/// The links of such a plan file.
+/// Appends the links of such a plan file.
 fn put_links(text: &mut String, bridges: usize, ahead: usize) -> Result<(), Fail> {
     for number in 1..bridges {
         for step in 1..ahead {
@@ -95,7 +95,7 @@ fn put_links(text: &mut String, bridges: usize, ahead: usize) -> Result<(), Fail
     Ok(())
 }
 
-/// A link of such a plan file.
+/// Appends a link of such a plan file.
 fn put_link(text: &mut String, near: usize, far: usize, step: usize) -> Result<(), Fail> {
     let back = step.saturating_add(7);
     let state = if step == 1 {

@@ -1,11 +1,11 @@
-//! Plans, and what their pictures have.
+//! Plans, and the pieces of their pictures.
 //!
-//! The states follow from the plan files, and where the bridges decide them from IEEE 802.1D-2004 clause 17.6: the root
-//! is the bridge with the lowest identifier, and of two bridges that are as far from it the lower one serves their
-//! link.
+//! The states follow from the plan files, or, if the bridges run the protocol, from IEEE 802.1D-2004 clause 17.6: the
+//! root is the bridge with the lowest identifier, and of two bridges that are as far from it the lower one is the
+//! Designated bridge of their link.
 
-/// A ring of three bridges whose states the plan gives: L3 stands by at B3. The service blue has no way over L2, which
-/// loses two frames.
+/// A ring of three bridges with given states: L3 is Discarding at B3. L2 does not carry the service blue, and loses two
+/// frames.
 pub(super) const GIVEN: &str = "\
 bridge = [\n\
   { name = \"B1\", address = \"02-00-00-00-00-01\" },\n\
@@ -25,7 +25,7 @@ port = [\n\
 ]\n\
 ";
 
-/// A ring of three bridges that decide the states themselves, without a service.
+/// A ring of three bridges that run the protocol, without a service.
 pub(super) const RING: &str = "\
 network = { spanning = \"rstp\" }\n\
 bridge = [\n\
@@ -40,7 +40,7 @@ link = [\n\
 ]\n\
 ";
 
-/// How often a piece stands in a text.
+/// A piece of a text, and how often it is there.
 pub(super) type Piece = (&'static str, usize);
 
 pub(super) const GIVEN_PIECES: &[Piece] = &[
@@ -93,7 +93,7 @@ pub(super) const GIVEN_PIECES: &[Piece] = &[
     ("</svg>\n", 1),
 ];
 
-/// L1 alone carries blue, between B1 and B2.
+/// The service blue: L1 alone carries it, between B1 and B2.
 pub(super) const BLUE_PIECES: &[Piece] = &[
     ("<g class=\"c1\">", 1),
     ("<g class=\"link active lit\">", 1),
@@ -107,7 +107,7 @@ pub(super) const BLUE_PIECES: &[Piece] = &[
     ("<g class=\"service c0 d1 faint\"", 1),
 ];
 
-/// L1 is down at B2.
+/// L1 is disabled at B2.
 pub(super) const DOWN_PIECES: &[Piece] = &[
     (
         "<title>link L1: B1 port 1 forwarding, B2 port 2 discarding</title>",
@@ -134,7 +134,7 @@ pub(super) const RING_PIECES: &[Piece] = &[
     ("<g class=\"link idle plain\">", 1),
 ];
 
-/// Before a tick every port is Discarding.
+/// Before the first tick every port is Discarding.
 pub(super) const UNSETTLED_PIECES: &[Piece] = &[
     ("class=\"discarding\"", 6),
     ("<g class=\"link idle plain\">", 3),

@@ -3,7 +3,7 @@
 use pb_cmd_survive::FailureProgress;
 use std::sync::atomic::{AtomicU64, Ordering};
 
-/// How many failures were looked at, of how many, and how often it was told that no more are.
+/// The number of finished failures, the number of all, and how often the progress was closed.
 #[derive(Drop)]
 pub(super) struct Counted {
     looked: AtomicU64,
@@ -12,7 +12,7 @@ pub(super) struct Counted {
 }
 
 impl Counted {
-    /// Of no look yet.
+    /// Returns the counts before the first failure.
     pub(super) fn new() -> Counted {
         Counted {
             looked: AtomicU64::new(0),
@@ -21,7 +21,7 @@ impl Counted {
         }
     }
 
-    /// How many failures were looked at, of how many, and how often it was told that no more are.
+    /// Returns the number of finished failures, the number of all, and how often the progress was closed.
     pub(super) fn counts(&self) -> (u64, u64, u64) {
         (
             self.looked.load(Ordering::SeqCst),
@@ -32,11 +32,13 @@ impl Counted {
 }
 
 impl FailureProgress for Counted {
+    /// Counts one more finished failure, and keeps the number of all.
     fn looked(&self, failures: usize) {
         self.looked.fetch_add(1, Ordering::SeqCst);
         self.failures.store(failures as u64, Ordering::SeqCst);
     }
 
+    /// Counts one more end of the progress.
     fn close(&self) {
         self.closed.fetch_add(1, Ordering::SeqCst);
     }

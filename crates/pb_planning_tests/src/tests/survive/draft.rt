@@ -1,8 +1,8 @@
-//! Plan files of networks that are named in short.
+//! Plan files of networks in a short notation.
 
 use std::alloc::{AllocError, Global};
 
-/// A port of a bridge, by two numbers.
+/// A port of a bridge: the numbers of the bridge and of the port.
 pub(super) type At = (u8, u8);
 
 /// A link between two ports, with further keys of its table.
@@ -11,12 +11,11 @@ pub(super) struct Wire<'a>(pub(super) At, pub(super) At, pub(super) &'a str);
 /// A customer port at a bridge's port, with its service.
 pub(super) struct Stub<'a>(pub(super) At, pub(super) &'a str);
 
-/// A network: bridges `B1` and so on, links `L1` and so on, the services `red` and `blue`, customer ports `C1` and so
-/// on.
+/// A network: bridges from `B1` on, links from `L1` on, the services `red` and `blue`, customer ports from `C1` on.
 pub(super) struct Draft<'a> {
-    /// What stands in the table `network`.
+    /// The keys of the table `network`.
     pub(super) network: &'a str,
-    /// How many bridges there are.
+    /// The number of bridges.
     pub(super) bridges: u8,
     /// The links.
     pub(super) wires: &'a [Wire<'a>],
@@ -29,7 +28,7 @@ const SERVICES: &str = "\
 [[service]]\nname = \"red\"\nvid = 100\n\
 [[service]]\nname = \"blue\"\nvid = 200\n";
 
-/// A bridge.
+/// Appends a bridge.
 fn put_bridge(out: &mut String, number: u8) -> Result<(), AllocError> {
     writeln!(
         out,
@@ -37,7 +36,7 @@ fn put_bridge(out: &mut String, number: u8) -> Result<(), AllocError> {
     )
 }
 
-/// A link.
+/// Appends a link.
 fn put_wire(out: &mut String, number: usize, wire: &Wire<'_>) -> Result<(), AllocError> {
     let Wire((a, a_port), (b, b_port), keys) = wire;
     writeln!(
@@ -46,7 +45,7 @@ fn put_wire(out: &mut String, number: usize, wire: &Wire<'_>) -> Result<(), Allo
     )
 }
 
-/// A customer port.
+/// Appends a customer port.
 fn put_stub(out: &mut String, number: usize, stub: &Stub<'_>) -> Result<(), AllocError> {
     let Stub((bridge, port), service) = stub;
     writeln!(
@@ -55,7 +54,7 @@ fn put_stub(out: &mut String, number: usize, stub: &Stub<'_>) -> Result<(), Allo
     )
 }
 
-/// The plan file of a network.
+/// Returns the plan file of a network.
 pub(super) fn plan_file(alloc: Global, draft: &Draft<'_>) -> Result<String, AllocError> {
     let mut out = String::new(alloc);
     writeln!(out, "[network]\n{}", draft.network)?;

@@ -2,7 +2,7 @@
 
 use super::draft::{Draft, Stub, Wire};
 
-/// The bridges find a spanning tree.
+/// The key with which the bridges run the rapid spanning tree.
 const RSTP: &str = "spanning = \"rstp\"";
 
 /// Six bridges in a ring, with a customer port of `red` at each.
@@ -52,7 +52,7 @@ pub(super) const PARALLEL: Draft = Draft {
     stubs: &[Stub((1, 3), "red"), Stub((2, 3), "red")],
 };
 
-/// A bridge in the midst of three.
+/// A bridge with links to three others. The plan gives the states.
 pub(super) const STAR: Draft = Draft {
     network: "",
     bridges: 4,
@@ -89,7 +89,7 @@ pub(super) const LISTED: Draft = Draft {
     ],
 };
 
-/// A ring of three that is open for `red`, since the plan gives all states.
+/// A ring of three with a forwarding loop for `red`: the plan gives all states.
 pub(super) const LOOPING: Draft = Draft {
     network: "",
     bridges: 3,
@@ -133,7 +133,7 @@ pub(super) const FIGURE: Draft = Draft {
     ],
 };
 
-/// Three bridges in a line, with two customer ports of `red` at the one in the midst.
+/// Three bridges in a line, with two customer ports of `red` at the middle one.
 pub(super) const SHARED: Draft = Draft {
     network: RSTP,
     bridges: 3,
@@ -146,7 +146,7 @@ pub(super) const SHARED: Draft = Draft {
     ],
 };
 
-/// A ring of three whose places may take steps enough to settle once, and not twice.
+/// A ring of three whose places may take enough steps to converge once, but not twice.
 pub(super) const BRIEF: Draft = Draft {
     network: "spanning = \"rstp\"\nsteps = 35",
     bridges: 3,

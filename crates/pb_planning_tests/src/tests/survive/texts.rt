@@ -1,15 +1,15 @@
-//! What is written of the networks.
+//! The reports on the networks.
 //!
-//! The groups follow from the links that are left; how many ticks settling takes is what the bridges showed.
+//! The groups follow from the remaining links. The numbers of ticks are those that the bridges took.
 
-/// A ring: each link is spared by the others.
+/// A ring: the other links replace each link.
 pub(super) const RING: &str = "\
 nothing down: settled ticks 2 forest yes\n\
 \x20 service red: C1 C2 C3 C4 C5 C6\n\
 6 of 6 failures part nothing, ticks at most 4\n\
 survives every single failure\n";
 
-/// A ring: two links leave two arcs.
+/// A ring: without two links two arcs remain.
 pub(super) const ARCS: &str = "\
 nothing down: settled ticks 2 forest yes\n\
 \x20 service red: C1 C2 C3 C4 C5 C6\n\
@@ -46,7 +46,7 @@ links L5 L6 down: settled ticks 2 forest yes\n\
 6 of 21 failures part nothing, ticks at most 4\n\
 15 of 21 failures part a service\n";
 
-/// A ring: a bridge that fails is alone, and the others stay together.
+/// A ring: a bridge that fails is alone, and the others stay connected.
 pub(super) const ALONE: &str = "\
 nothing down: settled ticks 2 forest yes\n\
 \x20 service red: C1 C2 C3 C4 C5 C6\n\
@@ -65,7 +65,7 @@ bridge B6 down: settled ticks 2 forest yes\n\
 6 of 12 failures part nothing, ticks at most 4\n\
 6 of 12 failures part a service\n";
 
-/// Two ports of one bridge: they part where it fails.
+/// Two ports of one bridge: they are disconnected if it fails.
 pub(super) const SHARED: &str = "\
 nothing down: settled ticks 2 forest yes\n\
 \x20 service red: C1 C2 C3 C4\n\
@@ -81,7 +81,7 @@ bridge B3 down: settled ticks 2 forest yes\n\
 \x20 service red: C1 C2 C3 | C4\n\
 5 of 5 failures part a service\n";
 
-/// A line: each link parts it.
+/// A line: each link disconnects it.
 pub(super) const LINE: &str = "\
 nothing down: settled ticks 2 forest yes\n\
 \x20 service red: C1 C2 C3 C4\n\
@@ -93,7 +93,7 @@ link L3 down: settled ticks 2 forest yes\n\
 \x20 service red: C1 C2 C3 | C4\n\
 3 of 3 failures part a service\n";
 
-/// A line, looked at from its second port.
+/// A line, from its second port.
 pub(super) const FROM: &str = "\
 nothing down: settled ticks 2 forest yes\n\
 \x20 service red: C1 C2 C3 C4\n\
@@ -112,7 +112,7 @@ nothing down: settled ticks 2 forest yes\n\
 2 of 2 failures part nothing, ticks at most 2\n\
 survives every single failure\n";
 
-/// Two links: without both nothing is left.
+/// Two links: without both the bridges are disconnected.
 pub(super) const BOTH: &str = "\
 nothing down: settled ticks 2 forest yes\n\
 \x20 service red: C1 C2\n\
@@ -121,7 +121,7 @@ links L1 L2 down: settled ticks 2 forest yes\n\
 2 of 3 failures part nothing, ticks at most 2\n\
 1 of 3 failures part a service\n";
 
-/// A star: each link cuts off what is behind it.
+/// A star: each link cuts off the port at its far end.
 pub(super) const STAR: &str = "\
 nothing down: states given forest yes\n\
 \x20 service red: C1 C2 C3\n\
@@ -133,7 +133,7 @@ link L3 down: states given forest yes\n\
 \x20 service red: C1 C2 | C3\n\
 3 of 3 failures part a service\n";
 
-/// A ring that is open: any link makes a forest of it.
+/// A ring with a forwarding loop: without any one link it is a forest.
 pub(super) const LOOPING: &str = "\
 nothing down: states given forest no\n\
 \x20 loop red\n\
@@ -141,7 +141,7 @@ nothing down: states given forest no\n\
 3 of 3 failures part nothing, ticks at most 0\n\
 survives every single failure\n";
 
-/// A ring of which a link is for one service: the other has only a line.
+/// A ring with a link for one service: the other service has only a line.
 pub(super) const LISTED: &str = "\
 nothing down: settled ticks 2 forest yes\n\
 \x20 service red: C1 C2\n\
@@ -151,14 +151,14 @@ link L1 down: settled ticks 2 forest yes\n\
 2 of 3 failures part nothing, ticks at most 2\n\
 1 of 3 failures part a service\n";
 
-/// The standard's network: each link is spared.
+/// The standard's network: each link is redundant.
 pub(super) const FIGURE: &str = "\
 nothing down: settled ticks 2 forest yes\n\
 \x20 service red: C1 C2 C3 C4 C5 C6 C7 C8\n\
 14 of 14 failures part nothing, ticks at most 2\n\
 survives every single failure\n";
 
-/// A ring whose bridges may tick twice alone.
+/// A ring whose bridges tick at most twice.
 pub(super) const UNSETTLED: &str = "\
 nothing down: settled ticks 2 forest yes\n\
 \x20 service red: C1 C2 C3 C4 C5 C6\n\
@@ -171,7 +171,7 @@ link L6 down: not settled ticks 2 forest yes\n\
 3 of 6 failures part nothing, ticks at most 2\n\
 3 of 6 failures part a service\n";
 
-/// Nothing at all.
+/// An empty plan.
 pub(super) const EMPTY: &str = "\
 nothing down: states given forest yes\n\
 survives every single failure\n";
