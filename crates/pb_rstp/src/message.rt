@@ -50,13 +50,7 @@ pub(crate) fn offer_by(id: u64, ports: &[Port]) -> Offer
 }
 
 /// Returns whether a port offers the same vector and the same times before and after a call.
-pub(crate) fn is_same_offer(
-    id: u64,
-    before: &Offer,
-    was: &Port,
-    after: &Offer,
-    now: &Port,
-) -> bool
+pub(crate) fn is_same_offer(id: u64, before: &Offer, was: &Port, after: &Offer, now: &Port) -> bool
     ensures { result ≡ is_same_offer id before.now was.now after.now now.now }
 {
     let old = was.designated_vector(id, &before.root);

@@ -46,8 +46,12 @@ impl Model for Rstp {
 
     ghost view = { λ r. record { id = r.id; prompt = r.prompt; ports = r.ports.items; hello_when = r.hello_when } };
 
-    ghost invariant = { λ r. IsTold (record { id = r.id; prompt = r.prompt; ports = r.ports.items;
-        hello_when = r.hello_when }) r.roles.items r.states.items };
+    ghost invariant = { λ r. IsTold (record {
+      id = r.id;
+      prompt = r.prompt;
+      ports = r.ports.items;
+      hello_when = r.hello_when;
+    }) r.roles.items r.states.items };
 }
 
 /// Returns the ports with their values at start.
