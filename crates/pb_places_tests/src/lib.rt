@@ -1,4 +1,4 @@
-//! Runs of pb_link, pb_ring and pb_threads with ample memory.
+//! Tests of pb_link, pb_ring and pb_threads with ample memory. The library is empty.
 #![tactic(auto)]
 
 #[cfg(test)]

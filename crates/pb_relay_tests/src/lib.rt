@@ -1,5 +1,4 @@
-//! Runs of one bridge with ample memory. The library itself has nothing: all of it is tests, each a table
-//! of what is asked of a bridge, row by row.
+//! Tests of one bridge with ample memory. The library is empty. Each test is a table of calls and checks, row by row.
 #![tactic(auto)]
 
 #[cfg(test)]

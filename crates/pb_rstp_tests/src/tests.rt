@@ -20,7 +20,7 @@ use pb_rstp::{
 use std::alloc::Global;
 use std::test::Fail;
 
-/// What the first bridge sends on its port 1, with the flags that propose.
+/// The BPDU of the first bridge on its port 1, with the flags that propose.
 const PROPOSAL: [u8; 53] = [
     0x01, 0x80, 0xc2, 0x00, 0x00, 0x08, 0x02, 0x00, 0x00, 0x00, 0x00, 0x01, 0x00, 0x27, 0x42, 0x42,
     0x03, 0x00, 0x00, 0x02, 0x02, 0x0e, 0x80, 0x00, 0x02, 0x00, 0x00, 0x00, 0x00, 0x01, 0x00, 0x00,
@@ -28,14 +28,14 @@ const PROPOSAL: [u8; 53] = [
     0x02, 0x00, 0x0f, 0x00, 0x00,
 ];
 
-/// The same with other flags.
+/// Returns that BPDU with other flags.
 fn first_with(flags: u8) -> [u8; 53] {
     let mut frame = PROPOSAL;
     frame[21] = flags;
     frame
 }
 
-/// A port with the usual cost and priority.
+/// Returns a port with the usual cost and priority.
 fn port(number: u8) -> RstpPort
     ensures { result.port ≡ number }
 {
@@ -46,12 +46,12 @@ fn port(number: u8) -> RstpPort
     }
 }
 
-/// The address that ends in this octet.
+/// Returns the address that ends in this octet.
 fn address(last: u8) -> Mac {
     Mac([2, 0, 0, 0, 0, last])
 }
 
-/// The configuration of the bridge with the address that ends in this octet.
+/// Returns the configuration of the bridge with the address that ends in this octet.
 fn config(alloc: Global, last: u8, ports: &[RstpPort]) -> Result<Config, Memory>
     ensures { IfOk result (λ config. config.ports ≡ ports.now) }
 {
@@ -62,29 +62,29 @@ fn config(alloc: Global, last: u8, ports: &[RstpPort]) -> Result<Config, Memory>
     })
 }
 
-/// The bridge with the address that ends in this octet.
+/// Returns the bridge with the address that ends in this octet.
 fn bridge(alloc: Global, last: u8, ports: &[RstpPort]) -> Result<Rstp, Memory>
     requires { AreAbove 0 ports.now }
 {
     Rstp::new(alloc, config(alloc, last, ports)?)
 }
 
-/// A bridge with port 1.
+/// Returns a bridge with port 1.
 fn with_one_port(alloc: Global, last: u8) -> Result<Rstp, Memory> {
     bridge(alloc, last, &[port(1)])
 }
 
-/// A bridge with ports 1 and 2.
+/// Returns a bridge with ports 1 and 2.
 fn with_two_ports(alloc: Global, last: u8) -> Result<Rstp, Memory> {
     bridge(alloc, last, &[port(1), port(2)])
 }
 
-/// A prompt bridge with ports 1 and 2.
+/// Returns a prompt bridge with ports 1 and 2.
 fn prompt_with_two_ports(alloc: Global, last: u8) -> Result<Rstp, Memory> {
     Rstp::prompt(alloc, config(alloc, last, &[port(1), port(2)])?)
 }
 
-/// The bridge with this address sends just this frame, on port 1.
+/// Checks whether the bridge with this address sends exactly this frame, on port 1.
 fn sends(alloc: Global, change: &Change, last: u8, frame: &[u8]) -> Result<bool, Memory> {
     match change.send.as_slice() {
         [(number, m)] => {
@@ -95,7 +95,7 @@ fn sends(alloc: Global, change: &Change, last: u8, frame: &[u8]) -> Result<bool,
     }
 }
 
-/// What a frame tells.
+/// Returns the BPDU in a frame.
 fn heard(frame: &[u8]) -> Result<Bpdu, Fail> {
     Ok(read(frame)?)
 }

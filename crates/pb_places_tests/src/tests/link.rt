@@ -16,7 +16,7 @@ use std::test::Fail;
 /// A broadcast.
 const BROADCAST: [u8; 14] = [255, 255, 255, 255, 255, 255, 2, 0, 0, 0, 1, 1, 8, 0];
 
-/// The broadcast, as the frame of this number of customer port 7.
+/// Returns the broadcast, as the frame of this number of customer port 7.
 fn item(alloc: Global, number: u64) -> Result<Item, AllocError> {
     Ok(Item {
         mark: Some(Mark {
@@ -35,10 +35,10 @@ enum Kind {
     Counted,
 }
 
-/// Both kinds, for each of which all that a place does is the same.
+/// Both kinds. A place does the same for each.
 const KINDS: [Kind; 2] = [Kind::Kept, Kind::Counted];
 
-/// Customer port 7, at its start.
+/// Returns customer port 7, at its start.
 fn port(alloc: Global, kind: Kind) -> CustomerPlace {
     match kind {
         Kind::Kept => CustomerPlace::new(alloc, 7),
@@ -46,7 +46,7 @@ fn port(alloc: Global, kind: Kind) -> CustomerPlace {
     }
 }
 
-/// A lane that loses the items of these numbers, which rise, at its start.
+/// Returns a lane that loses the items of these numbers, which rise, at its start.
 fn lane(alloc: Global, kind: Kind, losses: Seq<u64>) -> Lane
     requires { Rises losses }
 {
@@ -56,7 +56,7 @@ fn lane(alloc: Global, kind: Kind, losses: Seq<u64>) -> Lane
     }
 }
 
-/// What a customer port does with a frame.
+/// An action of a customer port with a frame.
 #[derive(Clone, Copy)]
 enum Deed {
     Poll,
@@ -67,10 +67,10 @@ enum Deed {
     Miss,
 }
 
-/// What it did, with the frame of a number.
+/// An action, with the frame of a number.
 type NumberedDeed = (Deed, u64);
 
-/// The step of it.
+/// Returns the step of an action.
 fn step_of(alloc: Global, (deed, number): NumberedDeed) -> Result<Step, AllocError> {
     let item = item(alloc, number)?;
     Ok(match deed {
@@ -81,7 +81,7 @@ fn step_of(alloc: Global, (deed, number): NumberedDeed) -> Result<Step, AllocErr
     })
 }
 
-/// Whether the step at a place is this one.
+/// Checks whether the step at an index is this one.
 fn is_step(
     alloc: Global,
     steps: &[Step],
@@ -92,7 +92,7 @@ fn is_step(
     Ok(steps.get(place) == Some(&step))
 }
 
-/// Whether these are the steps.
+/// Checks whether these are the steps.
 fn are_steps(alloc: Global, steps: &[Step], all: &[NumberedDeed]) -> Result<bool, AllocError> {
     for (place, deed) in all.iter().enumerate() {
         if !is_step(alloc, steps, place, *deed)? {
@@ -102,7 +102,7 @@ fn are_steps(alloc: Global, steps: &[Step], all: &[NumberedDeed]) -> Result<bool
     Ok(steps.len() == all.len())
 }
 
-/// Whether the steps are shown: these where they are kept, and none where they are counted.
+/// Checks whether the steps are shown: these if they are kept, and none if they are counted.
 fn are_shown(
     alloc: Global,
     kind: Kind,
@@ -115,7 +115,7 @@ fn are_shown(
     }
 }
 
-/// A broadcast comes in.
+/// Polls a broadcast.
 fn poll(alloc: Global, place: &mut CustomerPlace) -> Result<(), Memory> {
     let frame = Bytes::copy_from_slice(alloc, &BROADCAST)?;
     place.reserve_step()?;
@@ -125,7 +125,7 @@ fn poll(alloc: Global, place: &mut CustomerPlace) -> Result<(), Memory> {
     Ok(())
 }
 
-/// What the port feeds to its bridge, if anything.
+/// Returns the item that the port feeds to its bridge, if there is one.
 fn fed(place: &mut CustomerPlace) -> Result<Option<Item>, Memory> {
     place.reserve_step()?;
     if place.is_hand_empty() {
@@ -134,13 +134,13 @@ fn fed(place: &mut CustomerPlace) -> Result<Option<Item>, Memory> {
     Ok(Some(place.feed()?))
 }
 
-/// Whether the port feeds the frame of a number.
+/// Checks whether the port feeds the frame of a number.
 fn is_fed(alloc: Global, place: &mut CustomerPlace, number: u64) -> Result<bool, Memory> {
     let wanted = item(alloc, number)?;
     Ok(fed(place)? == Some(wanted))
 }
 
-/// Whether a port with an empty hand takes a broadcast, and feeds it as the frame of a number.
+/// Checks whether a port with an empty hand takes a broadcast, and feeds it as the frame of a number.
 fn passes(alloc: Global, place: &mut CustomerPlace, number: u64) -> Result<bool, Memory> {
     let was_empty = place.is_hand_empty();
     poll(alloc, place)?;
@@ -156,7 +156,7 @@ const FED: &[NumberedDeed] = &[
     (Deed::Feed, 1),
 ];
 
-/// Whether a port feeds two frames one after the other, and tells of that.
+/// Checks whether a port feeds two frames one after the other, and its steps say so.
 fn feeds_two(alloc: Global, kind: Kind) -> Result<bool, Memory> {
     let mut place = port(alloc, kind);
     let is_new = place.steps().is_empty() && place.step_count() == 0;
@@ -174,7 +174,7 @@ fn frames_are_fed_one_after_the_other(rt: HostRuntime) -> Result<(), Fail> {
     Ok(())
 }
 
-/// A port that holds a frame, once two items were delivered, the second of which is gone.
+/// Returns a port that holds a frame, once two items were delivered, the second of which is gone.
 fn with_two_delivered(alloc: Global, kind: Kind) -> Result<CustomerPlace, Memory> {
     let mut place = port(alloc, kind);
     poll(alloc, &mut place)?;
@@ -186,7 +186,7 @@ fn with_two_delivered(alloc: Global, kind: Kind) -> Result<CustomerPlace, Memory
     Ok(place)
 }
 
-/// Whether a port delivers two items beside the frame that it holds, tells of that, and feeds the frame.
+/// Checks whether a port delivers two items while it holds a frame, its steps say so, and it feeds the frame.
 fn delivers_two(alloc: Global, kind: Kind) -> Result<bool, Memory> {
     const STEPS: &[NumberedDeed] = &[(Deed::Poll, 0), (Deed::Deliver, 9), (Deed::Miss, 9)];
     let mut place = with_two_delivered(alloc, kind)?;

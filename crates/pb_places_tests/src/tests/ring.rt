@@ -15,7 +15,7 @@ use std::test::Fail;
 
 type Ring = (Producer<Item>, Consumer<Item>);
 
-/// The frame of this number of customer port 1.
+/// Returns the frame of this number of customer port 1.
 fn item(alloc: Global, number: u64) -> Result<Item, AllocError> {
     Ok(Item {
         mark: Some(Mark {
@@ -27,7 +27,7 @@ fn item(alloc: Global, number: u64) -> Result<Item, AllocError> {
     })
 }
 
-/// Sends the item of a number, if there is room.
+/// Sends the item of a number, if the ring is not full.
 fn send<W: Wiring>(alloc: Global, outlet: &mut Outlet<W>, number: u64) -> Result<bool, Memory>
     ensures { outlet.new.number ≡ outlet.old.number }
 {
@@ -39,7 +39,7 @@ fn send<W: Wiring>(alloc: Global, outlet: &mut Outlet<W>, number: u64) -> Result
     Ok(true)
 }
 
-/// Sends the items 0 and 1 over a ring that has room for two, and receives them.
+/// Sends the items 0 and 1 over a ring of two items, and receives them.
 fn send_two<W: Wiring>(alloc: Global, ring: Ring) -> Result<bool, Memory>
     requires writer { slice_get W.rings 5 ≡ Some (writer_name ring.0) }
     requires reader { slice_get W.rings 5 ≡ Some (reader_name ring.1) }
@@ -65,7 +65,7 @@ fn items_go_over_a_ring_in_order(rt: HostRuntime) -> Result<(), Fail> {
     Ok(())
 }
 
-/// Sends the item of a number over the ring at a place.
+/// Sends the item of a number over the ring at an index.
 fn send_at<W: Wiring>(
     alloc: Global,
     outlets: &mut Outlets<W>,
@@ -79,7 +79,7 @@ fn send_at<W: Wiring>(
     Ok(true)
 }
 
-/// Whether the item of a number, or none, is the next at a place.
+/// Checks whether the item of a number, or none, is the next at an index.
 fn is_next<W: Wiring>(
     alloc: Global,
     inlets: &mut Inlets<W>,
@@ -99,7 +99,7 @@ fn is_next<W: Wiring>(
     }
 }
 
-/// Sends over the second of two rings alone, and receives there alone.
+/// Sends over the second of two rings alone, and receives from it alone.
 fn use_second<W: Wiring>(
     alloc: Global,
     inlets: &mut Inlets<W>,
@@ -113,7 +113,7 @@ fn use_second<W: Wiring>(
     Ok(is_good && send_at(alloc, outlets, 0, 6)? && is_next(alloc, inlets, 0, Some(6))?)
 }
 
-/// The ends of two rings, by place.
+/// Returns the ends of two rings, by index.
 fn two_sides<W: Wiring>(
     alloc: Global,
     first: Ring,
@@ -137,7 +137,7 @@ fn two_sides<W: Wiring>(
     Ok((inlets, outlets))
 }
 
-/// The ends of two rings are used, and meet.
+/// Uses the ends of two rings, and lets them meet. Returns whether all went as expected.
 fn use_two<W: Wiring>(alloc: Global, first: Ring, second: Ring) -> Result<bool, Memory>
     requires first { (slice_get W.rings 0 ≡ Some (writer_name first.0))
         × (slice_get W.rings 0 ≡ Some (reader_name first.1)) }
@@ -149,7 +149,7 @@ fn use_two<W: Wiring>(alloc: Global, first: Ring, second: Ring) -> Result<bool, 
     Ok(is_good && have_met(&mut inlets, &mut outlets))
 }
 
-/// The ends of each ring meet, the one at its place and the other by itself.
+/// Lets the ends of each ring meet, the one at its index and the other by itself. Returns whether both rings are empty.
 fn have_met<W: Wiring>(inlets: &mut Inlets<W>, outlets: &mut Outlets<W>) -> bool {
     let Some(mut outlet) = outlets.ends.pop() else {
         return false;

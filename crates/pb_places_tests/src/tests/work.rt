@@ -11,13 +11,13 @@ use std::sync::atomic::{AtomicU64, Ordering};
 use std::test::Fail;
 use std::thread;
 
-/// What is shown of a port.
+/// The view that is shown of a port.
 const VIEW: PortView = PortView {
     role: None,
     state: PortState::Learning,
 };
 
-/// A place with so many jobs, one of which is done in a turn. A view of its port 3 is shown, at its ticks too.
+/// A place with this many jobs, one of which is done in a turn. It shows a view of its port 3, also at its ticks.
 #[derive(Drop)]
 struct Desk {
     place: Place,
@@ -85,7 +85,7 @@ impl Work for Desk {
     }
 }
 
-/// Two places with so many jobs each.
+/// Returns two places with this many jobs each.
 fn desks(alloc: Global, jobs: u64, first: Place, second: Place) -> Result<Vec<Desk>, AllocError> {
     let mut desks = Vec::new(alloc);
     for place in [first, second] {
@@ -104,7 +104,7 @@ fn desks(alloc: Global, jobs: u64, first: Place, second: Place) -> Result<Vec<De
     Ok(desks)
 }
 
-/// Two places of each kind, with so many jobs each.
+/// Returns two places of each kind, with this many jobs each.
 fn office(alloc: Global, jobs: u64) -> Result<Places<Desk, Desk, Desk>, AllocError> {
     Ok(Places {
         customers: desks(alloc, jobs, Place::Customer(1), Place::Customer(2))?,
@@ -113,7 +113,7 @@ fn office(alloc: Global, jobs: u64) -> Result<Places<Desk, Desk, Desk>, AllocErr
     })
 }
 
-/// All places of a run, in one list.
+/// Returns all places of a run, in one list.
 fn together(places: Places<Desk, Desk, Desk>) -> Result<Vec<Desk>, AllocError> {
     let Places {
         customers: mut desks,
@@ -129,7 +129,7 @@ fn together(places: Places<Desk, Desk, Desk>) -> Result<Vec<Desk>, AllocError> {
     Ok(desks)
 }
 
-/// At turn 0 each pass waits until all have come. It counts the passes of all turns.
+/// A gate at whose turn 0 each pass waits until all have come. It counts the passes of all turns.
 #[derive(Drop)]
 struct Meeting {
     all: u64,
@@ -184,7 +184,7 @@ fn all_workers_run_at_once_and_end_when_nothing_is_left(rt: HostRuntime) -> Resu
     Ok(())
 }
 
-/// Every worker may go on.
+/// A gate that stops nobody.
 #[derive(Clone, Copy)]
 struct Open;
 
@@ -252,7 +252,7 @@ fn a_clock_by_time_ticks_whatever_the_turns(rt: HostRuntime) -> Result<(), Fail>
     Ok(())
 }
 
-/// Stops each worker at a turn.
+/// A gate that stops each worker at a turn.
 #[derive(Drop)]
 struct StopAt(u64);
 
@@ -288,7 +288,8 @@ fn a_gate_stops_the_workers(rt: HostRuntime) -> Result<(), Fail> {
     Ok(())
 }
 
-/// Wishes once of each bridge to enable its port 3, after its clock has ticked, and counts what is refused and shown.
+/// A gate that wishes once of each bridge to enable its port 3, after its clock has ticked. It counts the refused
+/// copies and the shown views.
 #[derive(Drop)]
 struct Wishing {
     given: AtomicU64,
@@ -352,7 +353,7 @@ fn wishes_take_the_place_of_turns(rt: HostRuntime) -> Result<(), Fail> {
     Ok(())
 }
 
-/// Lets workers go on, and frames not enter.
+/// A gate that lets workers go on, and no frames enter.
 #[derive(Clone, Copy)]
 struct Shut;
 

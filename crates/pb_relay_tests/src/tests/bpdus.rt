@@ -1,46 +1,46 @@
-//! BPDUs, and what a bridge says of itself in them.
+//! BPDUs of the bridges of the tests.
 
-/// The first of B1: itself the root, Designated, Discarding, proposing.
+/// The first BPDU of B1: itself the root, Designated, Discarding, proposing.
 pub const PROPOSAL: &str = "0180c20000080200000000010027424203000002020e800002000000\
     000100000000800002000000000180010000140002000f0000";
 
-/// The same, once its port is Learning.
+/// The BPDU of B1 when its port is Learning.
 pub const LEARNING: &str = "0180c20000080200000000010027424203000002021e800002000000\
     000100000000800002000000000180010000140002000f0000";
 
-/// The same, once its port is Forwarding and tells of a topology change.
+/// The BPDU of B1 when its port is Forwarding. It reports a topology change.
 pub const OPENED: &str = "0180c20000080200000000010027424203000002023d800002000000\
     000100000000800002000000000180010000140002000f0000";
 
-/// What B2 answers to the first: Root, Forwarding, in agreement, telling of a topology change.
+/// The reply of B2 to the first BPDU of B1: Root, Forwarding, in agreement, with a topology change.
 pub const ANSWER: &str = "0180c200000802000000000200274242030000020279800002000000\
     000100004e20800002000000000280010100140002000f0000";
 
-/// What B3 answers to B2 once B1 is the root of all.
+/// The reply of B3 to B2 when B1 is the root of all.
 pub const ANSWER_OF_THIRD: &str = "0180c200000802000000000300274242030000020279800002000000\
     000100009c40800002000000000380010200140002000f0000";
 
-/// The first of B1, at the greatest cost.
+/// The first BPDU of B1, at the greatest cost.
 pub const COSTLY_PROPOSAL: &str = "0180c20000080200000000010027424203000002020e800002000000\
     0001ffffffff800002000000000180010000140002000f0000";
 
-/// What B2 answers to it: the cost stays the greatest.
+/// The reply of B2 to it: the cost stays the greatest.
 pub const COSTLY_ANSWER: &str = "0180c200000802000000000200274242030000020279800002000000\
     0001ffffffff800002000000000280010100140002000f0000";
 
-/// The first of B1 with the service tag of red in place of its length and what stands behind that.
+/// The first BPDU of B1 with the service tag of red in place of its length and the octets after it.
 pub const TAGGED_PROPOSAL: &str = "0180c200000802000000000188a8006403000002020e800002000000\
     000100000000800002000000000180010000140002000f0000";
 
-/// The first of B1 with the service tag of red in front of its length, as a bridge would tag it.
+/// The first BPDU of B1 with the service tag of red before its length, as a bridge would tag it.
 pub const PROPOSAL_BEHIND_TAG: &str = "0180c200000802000000000188a800640027424203000002020e8000\
     02000000000100000000800002000000000180010000140002000f0000";
 
-/// The octets of the first of B1, but to the address of customers' bridges, 01-80-C2-00-00-00.
+/// The octets of the first BPDU of B1, but to the address of customers' bridges, 01-80-C2-00-00-00.
 pub const CUSTOMER_PROPOSAL: &str = "0180c20000000200000000010027424203000002020e800002000000\
     000100000000800002000000000180010000140002000f0000";
 
-/// The same with the service tag of red.
+/// The same octets with the service tag of red.
 pub const TAGGED_CUSTOMER_PROPOSAL: &str =
     "0180c200000002000000000188a800640027424203000002020e8000\
     02000000000100000000800002000000000180010000140002000f0000";

@@ -1,4 +1,5 @@
-//! The traffic class of a frame, seen by which leaves first of those just above and below it.
+//! The traffic class of a frame, shown by the order in which it leaves among frames of the classes just above and below
+//! it.
 
 use super::BROADCAST;
 use super::harness::run;
@@ -7,7 +8,7 @@ use super::rows::{Fate, Piece, Row};
 use pb_lan::{PortState, Spanning};
 use std::test::Fail;
 
-/// A bridge between two others; the plan gives the states.
+/// A bridge between two others. The plan gives the states.
 const LINE: Network = Network::Line {
     spanning: Spanning::Fixed,
     start: PortState::Forwarding,
@@ -128,7 +129,7 @@ const BY_TAG: &[Row] = &[
     },
 ];
 
-/// The same, at a customer port.
+/// Priorities 4, 5 and 6 at a customer port.
 const BY_TAG_TO_CUSTOMER: &[Row] = &[
     Row::Receives {
         port: 2,

@@ -1,4 +1,4 @@
-//! Rulings on frames, and what a frame brings to other ports.
+//! Rulings on frames, and the frames that they bring to other ports.
 
 use super::BROADCAST;
 use super::harness::run;
@@ -14,19 +14,19 @@ const LINE: Network = Network::Line {
     start: PortState::Forwarding,
 };
 
-/// The same, and they are Learning.
+/// The bridge with ports in the state Learning.
 const LEARNING: Network = Network::Line {
     spanning: Spanning::Fixed,
     start: PortState::Learning,
 };
 
-/// The same, and they are Discarding.
+/// The bridge with ports in the state Discarding.
 const DISCARDING: Network = Network::Line {
     spanning: Spanning::Fixed,
     start: PortState::Discarding,
 };
 
-/// To all other ports of red, of a frame that comes in at port 2.
+/// The outcome of a frame at port 2 that is relayed to all other ports of red.
 const CARRIED: Fate = Fate::Relayed(&[1, 3, 4]);
 
 /// A customer's frames of each length about the limits.
@@ -138,7 +138,7 @@ fn reserved_destinations_are_refused(rt: HostRuntime) -> Result<(), Fail> {
     run(&rt, rt.alloc(), LINE, 2, DESTINATIONS)
 }
 
-/// A frame of red with nothing behind its type, between bridges.
+/// A frame of red with nothing after its type, between bridges.
 const OF_RED: Piece = Piece {
     number: None,
     hops: 0,
@@ -152,7 +152,7 @@ const TO_STATION: Piece = Piece {
     digits: "0200000001010200000001020800",
 };
 
-/// The station is known behind a port that is Forwarding; frames that aren't of its service teach nothing.
+/// The station is known at a port that is Forwarding. Frames that are not of its service teach nothing.
 const OPEN: &[Row] = &[
     Row::Receives {
         port: 1,
@@ -195,7 +195,7 @@ const OPEN: &[Row] = &[
     },
 ];
 
-/// The station is known behind a port that isn't Forwarding.
+/// The station is known at a port that is not Forwarding.
 const HALF_OPEN: &[Row] = &[
     Row::Receives {
         port: 1,
@@ -240,7 +240,7 @@ fn bridges_are_refused_by_a_discarding_port(rt: HostRuntime) -> Result<(), Fail>
     run(&rt, rt.alloc(), DISCARDING, 2, CLOSED)
 }
 
-/// A frame is relayed 4,294,967,295 times and no more.
+/// A frame is relayed 4,294,967,295 times at most.
 const WORN: &[Row] = &[
     Row::Receives {
         port: 2,
@@ -267,7 +267,7 @@ fn worn_frames_are_refused(rt: HostRuntime) -> Result<(), Fail> {
     run(&rt, rt.alloc(), LINE, 2, WORN)
 }
 
-/// The customer's own tag stays behind the service tag.
+/// The customer's own tag stays after the service tag.
 const GETS_TAG: &[Row] = &[
     Row::Receives {
         port: 2,
@@ -335,7 +335,7 @@ fn priority_tags_are_taken_off(rt: HostRuntime) -> Result<(), Fail> {
     run(&rt, rt.alloc(), LINE, 2, PRIORITY_TAG)
 }
 
-/// The service tag comes off for customers alone.
+/// The service tag is removed for customers alone.
 const LOSES_TAG: &[Row] = &[
     Row::Receives {
         port: 1,

@@ -1,4 +1,4 @@
-//! How a table is walked.
+//! The harness that walks a bridge through a table.
 
 use super::networks::Network;
 use super::rows::{Fate, Piece, Row, full_octets};
@@ -9,8 +9,8 @@ use std::alloc::Global;
 use std::process::Abort;
 use std::test::Fail;
 
-/// Walks the rows at the bridge of this number in a network, at one that keeps its steps and at one that only
-/// counts them. A row that does not hold is named by its number from 0.
+/// Walks the bridge of this number in a network through the rows, once keeping its steps and once only counting them. A
+/// failure names the row by its number from 0.
 pub fn run(
     rt: &impl Abort,
     alloc: Global,
@@ -23,7 +23,7 @@ pub fn run(
     walk(rt, alloc, &mut bridge, rows)
 }
 
-/// Does as [`run`], and then the last of the bridge's steps tells that this item left a port.
+/// Walks the rows as [`run`] does, and checks that the last step of the bridge reports that this item left a port.
 pub fn run_to_departure(
     rt: &impl Abort,
     alloc: Global,
@@ -39,7 +39,7 @@ pub fn run_to_departure(
     Ok(())
 }
 
-/// The steps of a bridge once the rows were walked.
+/// Returns the steps of a bridge after the rows.
 fn steps_after(
     rt: &impl Abort,
     alloc: Global,
@@ -54,20 +54,20 @@ fn steps_after(
     Ok(steps)
 }
 
-/// The bridge of this number at its start.
+/// Returns the bridge of this number at its start.
 fn started(rt: &impl Abort, alloc: Global, network: Network, number: u8) -> Result<Bridge, Fail> {
     let plan = network.plan(alloc)?;
     Ok(planned(rt, alloc, &plan, number)?)
 }
 
-/// The bridge of this number in a plan.
+/// Returns the bridge of this number in a plan.
 fn planned(rt: &impl Abort, alloc: Global, plan: &Plan, number: u8) -> Result<Bridge, Memory> {
     assert!(rt; plan_is_sound(plan));
     assert!(rt; 1 <= number && number as usize <= plan.bridges.len());
     Bridge::new(alloc, plan, number)
 }
 
-/// The bridge of this number at its start, which will only count its steps.
+/// Returns the bridge of this number at its start, which only counts its steps.
 fn counting(rt: &impl Abort, alloc: Global, network: Network, number: u8) -> Result<Bridge, Fail> {
     let plan = network.plan(alloc)?;
     assert!(rt; plan_is_sound(&plan));
@@ -75,7 +75,7 @@ fn counting(rt: &impl Abort, alloc: Global, network: Network, number: u8) -> Res
     Ok(Bridge::counting(alloc, &plan, number)?)
 }
 
-/// Walks the rows.
+/// Walks a bridge through the rows.
 fn walk(rt: &impl Abort, alloc: Global, bridge: &mut Bridge, rows: &[Row]) -> Result<(), Fail> {
     for place in 0..rows.len() {
         assert!(rt; holds(alloc, bridge, rows[place])?, "row {place}");
@@ -83,7 +83,7 @@ fn walk(rt: &impl Abort, alloc: Global, bridge: &mut Bridge, rows: &[Row]) -> Re
     Ok(())
 }
 
-/// Does what a row says, and tells whether it holds.
+/// Performs a row, and returns whether it holds.
 fn holds(alloc: Global, bridge: &mut Bridge, row: Row) -> Result<bool, Fail> {
     match row {
         Row::Receives { port, item, fate } => receives(alloc, bridge, port, item, fate),
@@ -108,7 +108,7 @@ fn holds(alloc: Global, bridge: &mut Bridge, row: Row) -> Result<bool, Fail> {
     }
 }
 
-/// An item comes in at a port, and this becomes of it.
+/// Checks whether an item that is received at a port has this fate.
 fn receives(
     alloc: Global,
     bridge: &mut Bridge,
@@ -120,7 +120,7 @@ fn receives(
     Ok(answers(bridge, port, item.item(alloc)?, &wanted))
 }
 
-/// A frame of so many octets comes in at a port, and this becomes of it.
+/// Checks whether a frame of this many octets that is received at a port has this fate.
 fn receives_octets(
     alloc: Global,
     bridge: &mut Bridge,
@@ -132,7 +132,7 @@ fn receives_octets(
     Ok(answers(bridge, port, full_octets(alloc, octets)?, &wanted))
 }
 
-/// An item comes in at a port, and its outcome is the wanted one.
+/// Checks whether an item that is received at a port has the expected outcome.
 fn answers(bridge: &mut Bridge, port: u8, item: Item, wanted: &Outcome) -> bool {
     if !bridge.has_port(port) {
         return false;
@@ -143,13 +143,13 @@ fn answers(bridge: &mut Bridge, port: u8, item: Item, wanted: &Outcome) -> bool 
     outcome == *wanted
 }
 
-/// An item comes in at a port and is taken in.
+/// Checks whether an item at a port is taken in.
 fn takes_in(alloc: Global, bridge: &mut Bridge, port: u8, item: Piece) -> Result<bool, Fail> {
     let item = item.item(alloc)?;
     Ok(bridge.has_port(port) && bridge.take_in(port, item).is_ok())
 }
 
-/// An item that comes in at a port is handed back, whichever way it is received.
+/// Checks whether an item at a port is returned, by each of the calls that receive.
 fn hands_back(
     alloc: Global,
     bridge: &mut Bridge,
@@ -162,7 +162,7 @@ fn hands_back(
     Ok(is_refused && takes_none_in(bridge, port, item.item(alloc)?, fault, &wanted))
 }
 
-/// An item comes in at a port, and is handed back.
+/// Checks whether a received item is returned.
 fn receives_none(
     bridge: &mut Bridge,
     port: u8,
@@ -179,7 +179,7 @@ fn receives_none(
     }
 }
 
-/// An item comes in at a port whose outcome isn't asked for, and is handed back.
+/// Checks whether an item is returned by the call that gives no outcome.
 fn takes_none_in(
     bridge: &mut Bridge,
     port: u8,
@@ -196,7 +196,7 @@ fn takes_none_in(
     }
 }
 
-/// The newest step tells this of the source of an item.
+/// Checks whether the newest step reports this of the source of an item.
 fn tells_learnt(bridge: &Bridge, wanted: Option<Learnt>) -> bool {
     match bridge.steps().last() {
         Some(Step::Receive { learnt, .. }) => *learnt == wanted,
@@ -205,30 +205,30 @@ fn tells_learnt(bridge: &Bridge, wanted: Option<Learnt>) -> bool {
     }
 }
 
-/// There are so many steps, and each is shown or none is.
+/// Checks whether there are this many steps, and all of them are shown or none is.
 fn has_steps(bridge: &Bridge, steps: usize) -> bool {
     let shown = bridge.steps().len();
     bridge.step_count() == steps as u64 && (shown == steps || shown == 0)
 }
 
-/// So many items wait at a port.
+/// Checks whether this many items wait at a port.
 fn waits(bridge: &Bridge, port: u8, items: u16) -> bool {
     bridge.has_port(port) && bridge.waiting(port) == items
 }
 
-/// This item is the next to leave a port.
+/// Checks whether this item is the next to leave a port.
 fn shows(alloc: Global, bridge: &Bridge, port: u8, item: Piece) -> Result<bool, Fail> {
     let wanted = item.item(alloc)?;
     Ok(bridge.has_port(port) && bridge.peek_out(port) == Some(&wanted))
 }
 
-/// This item leaves a port, and the newest step tells of it.
+/// Checks whether this item leaves a port, and the newest step reports it.
 fn sends(alloc: Global, bridge: &mut Bridge, port: u8, item: Piece) -> Result<bool, Fail> {
     let wanted = item.item(alloc)?;
     Ok(departs(bridge, port, &wanted) && tells_departure(bridge, port, &wanted))
 }
 
-/// The item that leaves a port is the wanted one.
+/// Checks whether the item that leaves a port is the expected one.
 fn departs(bridge: &mut Bridge, port: u8, wanted: &Item) -> bool {
     if bridge.reserve_step().is_err() || !bridge.has_port(port) {
         return false;
@@ -236,7 +236,7 @@ fn departs(bridge: &mut Bridge, port: u8, wanted: &Item) -> bool {
     bridge.waiting(port) > 0 && bridge.pop_out(port) == *wanted
 }
 
-/// The newest step tells that the item left the port, or steps are only counted.
+/// Checks whether the newest step reports that the item left the port, or steps are only counted.
 fn tells_departure(bridge: &Bridge, port: u8, wanted: &Item) -> bool {
     match bridge.steps().last() {
         None => bridge.step_count() != 0,
@@ -244,7 +244,7 @@ fn tells_departure(bridge: &Bridge, port: u8, wanted: &Item) -> bool {
     }
 }
 
-/// The step tells that the item left the port.
+/// Checks whether the step reports that the item left the port.
 fn is_departure(step: Option<&Step>, port: u8, wanted: &Item) -> bool {
     match step {
         Some(Step::Transmit { port: left, item }) => *left == port && item == wanted,
@@ -252,7 +252,7 @@ fn is_departure(step: Option<&Step>, port: u8, wanted: &Item) -> bool {
     }
 }
 
-/// The clock ticks; so many BPDUs are queued, and at those ports one finds no room.
+/// Ticks the clock. Checks whether this many BPDUs are queued, and whether one is dropped at each of these ports.
 fn ticks(bridge: &mut Bridge, queued: usize, dropped: &[(u8, NoRoom)]) -> bool {
     if bridge.tick().is_err() {
         return false;
@@ -266,7 +266,7 @@ fn ticks(bridge: &mut Bridge, queued: usize, dropped: &[(u8, NoRoom)]) -> bool {
     }
 }
 
-/// The clock ticks so often, and no BPDU is queued or finds no room.
+/// Ticks the clock this many times. Checks whether no BPDU is queued or dropped.
 fn passes(bridge: &mut Bridge, times: u8) -> bool {
     for _ in 0..times {
         if !ticks(bridge, 0, &[]) {
@@ -276,12 +276,12 @@ fn passes(bridge: &mut Bridge, times: u8) -> bool {
     true
 }
 
-/// A port to another bridge is set up or down.
+/// Enables or disables a port to another bridge. Returns whether that succeeded.
 fn sets(bridge: &mut Bridge, port: u8, up: bool) -> bool {
     bridge.has_link(port) && bridge.admin(port, up).is_ok()
 }
 
-/// The first local ports have these states, and all others are Discarding.
+/// Checks whether the first local ports have these states, and all others are Discarding.
 fn has_states(bridge: &Bridge, states: &[PortState]) -> bool {
     let shape = bridge.shape();
     let count = states.len();
@@ -294,7 +294,7 @@ fn has_states(bridge: &Bridge, states: &[PortState]) -> bool {
             .all(|state| *state == PortState::Discarding)
 }
 
-/// The bridge uses these ports alone, and these of them go to other bridges.
+/// Checks whether the bridge uses exactly these ports, and whether exactly these of them go to other bridges.
 fn uses(bridge: &Bridge, ports: &[u8], links: &[u8]) -> bool {
     for port in 0..32u8 {
         if bridge.has_port(port) != ports.contains(&port)

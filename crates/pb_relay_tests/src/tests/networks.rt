@@ -8,19 +8,19 @@ use std::alloc::{AllocError, Global};
 /// A network.
 #[derive(Clone, Copy)]
 pub enum Network {
-    /// B1 alone, with room for one item at each port, customer ports 1 to 3 of red, an ageing time of ten
-    /// ticks, and room for so many steps.
+    /// B1 alone, with queues of one item, customer ports 1 to 3 of red, an ageing time of ten ticks, and this limit of
+    /// steps.
     ThreeCustomers {
         steps: u64,
     },
-    /// B1 and B2, joined from port 1 to port 1, with room for so many items at each port; customers of red
-    /// at port 2 of each, and one of blue at B2's port 3.
+    /// B1 and B2, joined from port 1 to port 1, with queues of this many items. Customers of red are at port 2 of each,
+    /// and one of blue is at B2's port 3.
     TwoBridges {
         spanning: Spanning,
         queue: u16,
     },
-    /// B2 between B1, behind its port 1, and B3, behind its port 4; customers of red at B2's ports 2 and
-    /// 3, and one of blue at its port 5. All ends of links start in this state, if the plan decides.
+    /// B2 between B1 at its port 1 and B3 at its port 4. Customers of red are at B2's ports 2 and 3, and one of blue at
+    /// its port 5. All ends of links start in this state if the plan gives the states.
     Line {
         spanning: Spanning,
         start: PortState,
@@ -30,24 +30,24 @@ pub enum Network {
 /// A bridge and one of its ports.
 type Spot = (u8, u8);
 
-/// What is planned, with services red (VID 100) and blue (VID 200).
+/// A plan in short, with the services red (VID 100) and blue (VID 200).
 #[derive(Clone, Copy)]
 struct Layout {
     /// The name of each bridge, and the last octet of its address.
     bridges: &'static [(&'static str, u8)],
-    /// The most items that wait at each of their ports.
+    /// The greatest number of items that wait at a port.
     queue: u16,
     /// The name and the two ends of each link.
     links: &'static [(&'static str, Spot, Spot)],
-    /// The name of each customer port, where it stands, and the number of its service.
+    /// The name of each customer port, its local port, and the number of its service.
     customers: &'static [(&'static str, Spot, u8)],
-    /// Who decides the states.
+    /// Whether the plan or a spanning tree decides the states.
     spanning: Spanning,
-    /// The state in which all ends of links start, if the plan decides.
+    /// The state in which all ends of links start, if the plan gives the states.
     start: PortState,
     /// The ageing time.
     ageing: u32,
-    /// The most steps.
+    /// The greatest number of steps.
     steps: u64,
 }
 
@@ -88,12 +88,12 @@ const ROW: Layout = Layout {
 };
 
 impl Network {
-    /// Its plan.
+    /// Returns the network's plan.
     pub fn plan(self, alloc: Global) -> Result<Plan, AllocError> {
         self.layout().plan(alloc)
     }
 
-    /// What is planned.
+    /// Returns the network's layout.
     fn layout(self) -> Layout {
         match self {
             Network::ThreeCustomers { steps } => Layout { steps, ..ALONE },
@@ -112,7 +112,7 @@ impl Network {
 }
 
 impl Layout {
-    /// Its plan.
+    /// Returns the layout's plan.
     fn plan(&self, alloc: Global) -> Result<Plan, AllocError> {
         Ok(Plan {
             bridges: self.bridge_plans(alloc)?,
@@ -127,7 +127,7 @@ impl Layout {
         })
     }
 
-    /// Its bridges.
+    /// Returns the layout's bridges.
     fn bridge_plans(&self, alloc: Global) -> Result<Seq<BridgePlan>, AllocError> {
         let mut plans = Vec::new(alloc);
         for place in 0..self.bridges.len() {
@@ -142,7 +142,7 @@ impl Layout {
         Ok(Seq::from_vec(plans))
     }
 
-    /// Its links, which lose nothing.
+    /// Returns the layout's links, which lose nothing.
     fn link_plans(&self, alloc: Global) -> Result<Seq<LinkPlan>, AllocError> {
         let mut plans = Vec::new(alloc);
         for place in 0..self.links.len() {
@@ -158,7 +158,7 @@ impl Layout {
         Ok(Seq::from_vec(plans))
     }
 
-    /// The end of a link, for all services.
+    /// Returns the end of a link, for all services.
     fn end(&self, (bridge, port): Spot) -> End {
         End {
             bridge,
@@ -170,7 +170,7 @@ impl Layout {
         }
     }
 
-    /// Its customer ports, with priority 0.
+    /// Returns the layout's customer ports, with priority 0.
     fn customer_plans(&self, alloc: Global) -> Result<Seq<CustomerPlan>, AllocError> {
         let mut plans = Vec::new(alloc);
         for place in 0..self.customers.len() {
@@ -188,7 +188,7 @@ impl Layout {
     }
 }
 
-/// Red and blue.
+/// Returns red and blue.
 fn services(alloc: Global) -> Result<Seq<ServicePlan>, AllocError> {
     let mut plans = Vec::new(alloc);
     for (name, vid) in [("red", 100), ("blue", 200)] {
@@ -200,7 +200,7 @@ fn services(alloc: Global) -> Result<Seq<ServicePlan>, AllocError> {
     Ok(Seq::from_vec(plans))
 }
 
-/// A name.
+/// Returns a name.
 fn text(alloc: Global, name: &str) -> Result<Text, AllocError> {
     Ok(Text::from_string(String::from_str(alloc, name)?))
 }

@@ -1,4 +1,4 @@
-//! One bridge with three customer ports of one service, and room for one item at each port.
+//! One bridge with three customer ports of one service, and queues of one item.
 
 use super::BROADCAST;
 use super::harness::{run, run_to_departure};
@@ -8,20 +8,20 @@ use pb_lan::{NoRoom, PortState, Reason};
 use pb_relay::BridgeFault;
 use std::test::Fail;
 
-/// The bridge, with room for a hundred steps.
+/// The bridge, with a limit of a hundred steps.
 const ROOMY: Network = Network::ThreeCustomers { steps: 100 };
 
-/// The bridge, with room for one step.
+/// The bridge, with a limit of one step.
 const NARROW: Network = Network::ThreeCustomers { steps: 1 };
 
-/// The first broadcast, as it comes in.
+/// The first broadcast, as it is received.
 const FIRST: Piece = Piece {
     number: Some(0),
     hops: 0,
     digits: BROADCAST,
 };
 
-/// The second broadcast, as it comes in.
+/// The second broadcast, as it is received.
 const SECOND: Piece = Piece {
     number: Some(1),
     hops: 0,
@@ -42,7 +42,7 @@ const ANSWER: Piece = Piece {
     digits: "0200000001010200000001020800",
 };
 
-/// The first broadcast comes in at port 1.
+/// The first broadcast is received at port 1.
 const ENTERS: Row = Row::Receives {
     port: 1,
     item: FIRST,
@@ -85,7 +85,7 @@ fn a_copy_is_sent_once(rt: HostRuntime) -> Result<(), Fail> {
     run_to_departure(&rt, rt.alloc(), ROOMY, 1, SENT, 3, COPY)
 }
 
-/// The next one finds no room at the other.
+/// The queue of the other is full for the next one.
 const FULL: &[Row] = &[
     ENTERS,
     LEAVES_3,
@@ -118,7 +118,7 @@ const YOUNG: &[Row] = &[
     Row::Steps(13),
 ];
 
-/// Ten ticks later it isn't.
+/// Ten ticks later it is not.
 const OLD: &[Row] = &[
     ENTERS,
     LEAVES_2,
@@ -209,7 +209,7 @@ fn the_list_has_its_limit(rt: HostRuntime) -> Result<(), Fail> {
     run(&rt, rt.alloc(), NARROW, 1, LIMIT)
 }
 
-/// What comes in after that goes nowhere.
+/// The next item is returned.
 const HANDED_BACK: &[Row] = &[
     Row::Passes(1),
     Row::HandsBack {

@@ -1,4 +1,4 @@
-//! What waits at a port.
+//! The queues of ports.
 
 use super::BROADCAST;
 use super::harness::run;
@@ -7,13 +7,13 @@ use super::rows::{Fate, Piece, Row};
 use pb_lan::{NoRoom, PortState, Spanning};
 use std::test::Fail;
 
-/// A bridge between two others; the plan gives the states.
+/// A bridge between two others. The plan gives the states.
 const LINE: Network = Network::Line {
     spanning: Spanning::Fixed,
     start: PortState::Forwarding,
 };
 
-/// A bridge with room for one item at each port.
+/// A bridge with queues of one item.
 const NARROW: Network = Network::ThreeCustomers { steps: 100 };
 
 /// The broadcast under a priority tag with priority 6.
@@ -22,7 +22,7 @@ const URGENT: &str = "ffffffffffff02000000010188a8c00008004142";
 /// The broadcast under a priority tag with priority 7.
 const MOST_URGENT: &str = "ffffffffffff02000000010188a8e00008004142";
 
-/// Four frames of two classes, told apart by how many bridges relayed them.
+/// Four frames of two classes, distinguished by how many bridges relayed them.
 const CLASSES: &[Row] = &[
     Row::Receives {
         port: 2,
@@ -133,7 +133,7 @@ fn the_higher_class_leaves_first(rt: HostRuntime) -> Result<(), Fail> {
     run(&rt, rt.alloc(), LINE, 2, CLASSES)
 }
 
-/// One frame, whose step tells of it as it leaves.
+/// One frame, whose step reports it as it leaves.
 const ONE: &[Row] = &[
     Row::Receives {
         port: 2,
@@ -159,7 +159,7 @@ fn an_item_and_its_copy_are_one(rt: HostRuntime) -> Result<(), Fail> {
     run(&rt, rt.alloc(), LINE, 2, ONE)
 }
 
-/// A frame that waits leaves no room for a more urgent one.
+/// The queue is full for a more urgent frame while another one waits.
 const FULL: &[Row] = &[
     Row::Receives {
         port: 1,

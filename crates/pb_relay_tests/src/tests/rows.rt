@@ -1,4 +1,4 @@
-//! What a row of a table says.
+//! The rows of a table.
 
 use bytes::Bytes;
 use pb_frame::{Learnt, hex_read};
@@ -10,7 +10,7 @@ use std::test::Fail;
 /// An item.
 #[derive(Clone, Copy)]
 pub struct Piece {
-    /// The number of its mark, which is of customer port 1; None where it has no mark.
+    /// The number of its mark, which is of customer port 1, or None if it has no mark.
     pub number: Option<u64>,
     /// How many bridges have relayed it.
     pub hops: u32,
@@ -18,7 +18,7 @@ pub struct Piece {
     pub digits: &'static str,
 }
 
-/// What becomes of an item.
+/// The fate of an item.
 #[derive(Clone, Copy)]
 pub enum Fate {
     /// It is relayed to these ports.
@@ -28,41 +28,41 @@ pub enum Fate {
         chosen: &'static [u8],
         full: &'static [(u8, NoRoom)],
     },
-    /// It goes nowhere.
+    /// It is dropped.
     Filtered(Reason),
     /// It is heard as a BPDU.
     Heard,
 }
 
-/// What is done with a bridge, or what is seen of it.
+/// A call of a bridge, or a check of it.
 #[derive(Clone, Copy)]
 pub enum Row {
-    /// An item comes in at a port.
+    /// An item is received at a port.
     Receives {
         port: u8,
         item: Piece,
         fate: Fate,
     },
-    /// A frame without a mark comes in at a port, of so many octets, all of them 255.
+    /// A frame without a mark is received at a port, of this many octets, all of them 255.
     ReceivesOctets {
         port: u8,
         octets: usize,
         fate: Fate,
     },
-    /// An item comes in at a port, and its outcome is told by the step alone.
+    /// An item is received at a port, and only the step reports its outcome.
     TakesIn {
         port: u8,
         item: Piece,
     },
-    /// An item that comes in at a port is handed back, whether or not its outcome is asked for.
+    /// An item at a port is returned, by each of the calls that receive.
     HandsBack {
         port: u8,
         item: Piece,
         fault: BridgeFault,
     },
-    /// The newest step tells this of the source of an item.
+    /// The newest step reports this of the source of an item.
     Learns(Option<Learnt>),
-    /// So many items wait at a port.
+    /// This many items wait at a port.
     Waits {
         port: u8,
         items: u16,
@@ -72,23 +72,23 @@ pub enum Row {
         port: u8,
         item: Piece,
     },
-    /// This item leaves a port, and the newest step tells of it.
+    /// This item leaves a port, and the newest step reports it.
     Sends {
         port: u8,
         item: Piece,
     },
-    /// The clock ticks; so many BPDUs are queued, and at those ports one finds no room.
+    /// The clock ticks. This many BPDUs are queued, and one is dropped at each of these ports.
     Ticks {
         queued: usize,
         dropped: &'static [(u8, NoRoom)],
     },
-    /// The clock ticks so often, and no BPDU is queued or finds no room.
+    /// The clock ticks this many times, and no BPDU is queued or dropped.
     Passes(u8),
     /// The clock can't tick.
     TickFails(BridgeFault),
-    /// There is no room for a step.
+    /// No step can be reserved.
     ReserveFails(BridgeFault),
-    /// A port to another bridge is set up or down.
+    /// A port to another bridge is enabled or disabled.
     Sets {
         port: u8,
         up: bool,
@@ -100,14 +100,14 @@ pub enum Row {
         ports: &'static [u8],
         links: &'static [u8],
     },
-    /// There are so many steps.
+    /// There are this many steps.
     Steps(usize),
     /// The bridge has a spanning tree, or has none.
     HasTree(bool),
 }
 
 impl Piece {
-    /// The item itself.
+    /// Returns the item.
     pub fn item(self, alloc: Global) -> Result<Item, Fail> {
         Ok(Item {
             mark: self.number.map(|number| Mark {
@@ -121,7 +121,7 @@ impl Piece {
 }
 
 impl Fate {
-    /// The outcome itself.
+    /// Returns the outcome.
     pub fn outcome(self) -> Result<Outcome, AllocError> {
         match self {
             Fate::Relayed(chosen) => relayed(chosen, &[]),
@@ -132,7 +132,7 @@ impl Fate {
     }
 }
 
-/// Relayed to these ports, of which those refused.
+/// Returns the outcome of a frame that is relayed to these ports, of which those refuse it.
 fn relayed(chosen: &[u8], refused: &[(u8, NoRoom)]) -> Result<Outcome, AllocError> {
     Ok(Outcome::Relayed {
         chosen: PortSet::from_slice(chosen).ok_or(AllocError)?,
@@ -140,7 +140,7 @@ fn relayed(chosen: &[u8], refused: &[(u8, NoRoom)]) -> Result<Outcome, AllocErro
     })
 }
 
-/// A frame without a mark, of so many octets, all of them 255.
+/// Returns a frame without a mark, of this many octets, all of them 255.
 pub fn full_octets(alloc: Global, octets: usize) -> Result<Item, AllocError> {
     let mut wire = Vec::with_capacity(alloc, octets)?;
     for _ in 0..octets {

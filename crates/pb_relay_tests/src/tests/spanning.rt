@@ -1,4 +1,4 @@
-//! Bridges whose states the protocol decides.
+//! Bridges that run the spanning tree.
 
 use super::bpdus::{
     ANSWER, COSTLY_ANSWER, COSTLY_PROPOSAL, CUSTOMER_PROPOSAL, OPENED, PROPOSAL,
@@ -11,7 +11,7 @@ use super::{BROADCAST, TAGGED_BROADCAST};
 use pb_lan::{PortState, Reason, Spanning};
 use std::test::Fail;
 
-/// Two bridges under the protocol.
+/// Two bridges that run the spanning tree.
 const TWO_BRIDGES_BY_PROTOCOL: Network = Network::TwoBridges {
     spanning: Spanning::Rstp,
     queue: 64,
@@ -23,13 +23,13 @@ const TWO_BRIDGES: Network = Network::TwoBridges {
     queue: 64,
 };
 
-/// B2 between two others, under the protocol.
+/// B2 between two others, running the spanning tree.
 const LINE_BY_PROTOCOL: Network = Network::Line {
     spanning: Spanning::Rstp,
     start: PortState::Forwarding,
 };
 
-/// The same, and the plan gives the states.
+/// B2 between two others. The plan gives the states.
 const LINE: Network = Network::Line {
     spanning: Spanning::Fixed,
     start: PortState::Forwarding,
@@ -42,14 +42,14 @@ const FROM_FIRST: Piece = Piece {
     digits: PROPOSAL,
 };
 
-/// B2's answer on its way.
+/// The reply of B2 on its way.
 const FROM_SECOND: Piece = Piece {
     number: None,
     hops: 0,
     digits: ANSWER,
 };
 
-/// What B1 says then, on its way.
+/// The next BPDU of B1 on its way.
 const FIRST_OPENED: Piece = Piece {
     number: None,
     hops: 0,
@@ -63,7 +63,7 @@ const HEARS_PROPOSAL: Row = Row::Receives {
     fate: Fate::Heard,
 };
 
-/// B2 answers it.
+/// B2 replies.
 const ANSWERS: Row = Row::Sends {
     port: 1,
     item: FROM_SECOND,
@@ -81,14 +81,14 @@ const PROPOSES: Row = Row::Sends {
     item: FROM_FIRST,
 };
 
-/// B2's answer is heard at B1's port 1.
+/// The reply of B2 is heard at B1's port 1.
 const HEARS_ANSWER: Row = Row::Receives {
     port: 1,
     item: FROM_SECOND,
     fate: Fate::Heard,
 };
 
-/// B1 tells that its port is open.
+/// B1 reports that its port is Forwarding.
 const TELLS: Row = Row::Sends {
     port: 1,
     item: FIRST_OPENED,
@@ -121,7 +121,7 @@ fn the_first_tick_sends_a_proposal(rt: HostRuntime) -> Result<(), Fail> {
     run(&rt, rt.alloc(), TWO_BRIDGES_BY_PROTOCOL, 1, FIRST_TICK)
 }
 
-/// B2 opens its port and says so.
+/// B2's port becomes Forwarding, and B2 reports it.
 const AGREES: &[Row] = &[
     HEARS_PROPOSAL,
     Row::States(&[
@@ -163,7 +163,7 @@ fn the_greatest_cost_stays_the_greatest(rt: HostRuntime) -> Result<(), Fail> {
     run(&rt, rt.alloc(), TWO_BRIDGES_BY_PROTOCOL, 2, COSTLY)
 }
 
-/// B1 opens its port and tells of the change.
+/// B1's port becomes Forwarding, and B1 reports the topology change.
 const OPENS: &[Row] = &[
     TICKS,
     PROPOSES,
@@ -177,7 +177,7 @@ fn an_agreement_opens_the_port(rt: HostRuntime) -> Result<(), Fail> {
     run(&rt, rt.alloc(), TWO_BRIDGES_BY_PROTOCOL, 1, OPENS)
 }
 
-/// A BPDU that is queued behind frames of three other classes leaves before them, and the highest of these next.
+/// A BPDU that is queued after frames of three other classes leaves before them, and the highest of these next.
 const OWN_FIRST: &[Row] = &[
     TICKS,
     PROPOSES,
@@ -262,7 +262,7 @@ fn the_plan_may_give_the_states(rt: HostRuntime) -> Result<(), Fail> {
     run(&rt, rt.alloc(), TWO_BRIDGES, 2, OVERHEARS)
 }
 
-/// The customer's BPDU goes nowhere, and nothing follows.
+/// The customer's BPDU is dropped, and nothing follows.
 const FROM_CUSTOMER: &[Row] = &[
     Row::Receives {
         port: 2,
@@ -281,7 +281,7 @@ fn customers_send_no_bpdus(rt: HostRuntime) -> Result<(), Fail> {
     run(&rt, rt.alloc(), TWO_BRIDGES_BY_PROTOCOL, 2, FROM_CUSTOMER)
 }
 
-/// Under a service tag it goes nowhere, and nothing follows.
+/// Under a service tag it is dropped, and nothing follows.
 const TAGGED: &[Row] = &[
     Row::Receives {
         port: 1,
@@ -313,7 +313,7 @@ fn a_tagged_bpdu_is_not_heard(rt: HostRuntime) -> Result<(), Fail> {
     run(&rt, rt.alloc(), TWO_BRIDGES_BY_PROTOCOL, 2, TAGGED)
 }
 
-/// The port is set down, and stays silent.
+/// The port is disabled, and sends nothing.
 const DOWN: &[Row] = &[
     HEARS_PROPOSAL,
     ANSWERS,
@@ -332,7 +332,7 @@ fn a_port_that_is_down_sends_nothing(rt: HostRuntime) -> Result<(), Fail> {
     run(&rt, rt.alloc(), TWO_BRIDGES_BY_PROTOCOL, 2, DOWN)
 }
 
-/// To the other customer of red, as no port to a bridge is open yet.
+/// It goes to the other customer of red, because no port to a bridge is Forwarding yet.
 const CUSTOMERS_TREE: &[Row] = &[
     Row::Receives {
         port: 2,
@@ -360,7 +360,7 @@ const CUSTOMERS_TREE: &[Row] = &[
     },
 ];
 
-/// To bridges too.
+/// It goes to bridges too.
 const CUSTOMERS_TREE_TO_BRIDGES: &[Row] = &[
     Row::Receives {
         port: 2,

@@ -1,5 +1,5 @@
-//! What the clock brings, at bridges whose states the protocol decides. The hello time is two ticks, a port
-//! waits 15 ticks for each next state, and at most six BPDUs are sent of late, of which each tick forgets one.
+//! The effect of the clock on bridges that run the spanning tree. The hello time is two ticks, and a port waits 15
+//! ticks for each next state. The transmit count allows six BPDUs, and each tick lowers it by one.
 
 use super::bpdus::{ANSWER, LEARNING, OPENED, PROPOSAL};
 use super::harness::run;
@@ -14,7 +14,7 @@ const NETWORK: Network = Network::TwoBridges {
     queue: 64,
 };
 
-/// With room for three items at each port.
+/// B1 with queues of three items.
 const NARROW: Network = Network::TwoBridges {
     spanning: Spanning::Rstp,
     queue: 3,
@@ -29,7 +29,7 @@ const HELLO: Row = Row::Ticks {
 /// The clock ticks, and no BPDU is queued.
 const QUIET: Row = Row::Passes(1);
 
-/// The clock ticks, and a BPDU finds the queue full.
+/// The clock ticks, and a BPDU is dropped because the queue is full.
 const DROPPED: Row = Row::Ticks {
     queued: 0,
     dropped: &[(1, NoRoom::Full)],
@@ -55,7 +55,7 @@ const LEARNS: Row = Row::Sends {
     },
 };
 
-/// It is Forwarding, and tells of a topology change.
+/// It is Forwarding, and reports a topology change.
 const TELLS: Row = Row::Sends {
     port: 1,
     item: Piece {
@@ -65,8 +65,8 @@ const TELLS: Row = Row::Sends {
     },
 };
 
-/// Thirty ticks alone, where each BPDU leaves before the next tick: at the first, since the start makes it due, and at
-/// each second one.
+/// Thirty ticks alone, with each BPDU leaving before the next tick: one at the first, because the start makes it due,
+/// and one at each second tick.
 const SENT: &[Row] = &[
     Row::States(&[PortState::Discarding, PortState::Forwarding]),
     HELLO,
@@ -124,7 +124,8 @@ const SENT: &[Row] = &[
     Row::States(&[PortState::Forwarding, PortState::Forwarding]),
 ];
 
-/// The same where nothing leaves: three fill the queue, and those after them find no room, until one leaves.
+/// Thirty ticks in which nothing leaves: three BPDUs fill the queue, and those after them are dropped, until one
+/// leaves.
 const LEFT_WAITING: &[Row] = &[
     HELLO,
     Row::Waits { port: 1, items: 1 },
@@ -184,7 +185,7 @@ fn thirty_ticks_alone_fill_a_queue(rt: HostRuntime) -> Result<(), Fail> {
     run(&rt, rt.alloc(), NARROW, 1, LEFT_WAITING)
 }
 
-/// B2 hears the first BPDU of B1, to which it has to answer.
+/// B2 hears the first BPDU of B1, and has to reply.
 const HEARS: Row = Row::Receives {
     port: 1,
     item: Piece {
@@ -195,7 +196,7 @@ const HEARS: Row = Row::Receives {
     fate: Fate::Heard,
 };
 
-/// B2 answers.
+/// B2 replies.
 const ANSWERS: Row = Row::Sends {
     port: 1,
     item: Piece {
@@ -205,8 +206,8 @@ const ANSWERS: Row = Row::Sends {
     },
 };
 
-/// Six answers are sent. The seventh stays due until a tick has gone by. At the second tick, a hello time, the port
-/// still tells of a topology change, and at the next hello time no more.
+/// Six replies are sent. The seventh stays due until the next tick. At the second tick, a hello time, the port still
+/// reports a topology change, and at the next hello time no more.
 const HELD_BACK: &[Row] = &[
     HEARS,
     HEARS,

@@ -1,4 +1,4 @@
-//! Which stations are forgotten when the topology changes.
+//! The stations that are forgotten when the topology changes.
 
 use super::BROADCAST;
 use super::bpdus::{ANSWER_OF_THIRD, OPENED, PROPOSAL};
@@ -8,7 +8,7 @@ use super::rows::{Fate, Piece, Row};
 use pb_lan::{PortState, Spanning};
 use std::test::Fail;
 
-/// B2 between B1 and B3, under the protocol.
+/// B2 between B1 and B3, running the spanning tree.
 const LINE: Network = Network::Line {
     spanning: Spanning::Rstp,
     start: PortState::Forwarding,
@@ -23,13 +23,13 @@ const FROM_BEHIND_FIRST: &str = "ffffffffffff02000000040188a8006408004142";
 /// From the customer at port 3 to the one at port 2.
 const TO_CUSTOMER: &str = "0200000001010200000001020800";
 
-/// From there to the station behind B3.
+/// From the customer at port 3 to the station beyond B3.
 const TO_BEHIND_THIRD: &str = "0200000003010200000001020800";
 
-/// From there to the station behind B1.
+/// From the customer at port 3 to the station beyond B1.
 const TO_BEHIND_FIRST: &str = "0200000004010200000001020800";
 
-/// Both ports to bridges open, and three stations are seen. Then B1 tells of a topology change.
+/// Both ports to bridges become Forwarding, and three stations are seen. Then B1 reports a topology change.
 const CHANGE: &[Row] = &[
     Row::Receives {
         port: 1,

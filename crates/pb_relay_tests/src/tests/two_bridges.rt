@@ -7,7 +7,7 @@ use super::{BROADCAST, TAGGED_BROADCAST};
 use pb_lan::{PortState, Reason, Spanning};
 use std::test::Fail;
 
-/// B1 and B2; the plan gives the states.
+/// B1 and B2. The plan gives the states.
 const NETWORK: Network = Network::TwoBridges {
     spanning: Spanning::Fixed,
     queue: 64,
@@ -68,7 +68,7 @@ fn frames_arrive_without_it(rt: HostRuntime) -> Result<(), Fail> {
     run(&rt, rt.alloc(), NETWORK, 2, ARRIVES)
 }
 
-/// The port to B2 is set down.
+/// The port to B2 is disabled.
 const DOWN: &[Row] = &[
     Row::Sets { port: 1, up: false },
     Row::States(&[PortState::Discarding, PortState::Forwarding]),
@@ -90,7 +90,7 @@ fn a_port_that_is_down_relays_nothing(rt: HostRuntime) -> Result<(), Fail> {
     run(&rt, rt.alloc(), NETWORK, 1, DOWN)
 }
 
-/// The port to B2 is set down and up again.
+/// The port to B2 is disabled and enabled again.
 const UP_AGAIN: &[Row] = &[
     Row::Sets { port: 1, up: false },
     Row::Sets { port: 1, up: true },

@@ -7,7 +7,7 @@ use pb_rstp::{Change, Role, Rstp};
 use std::alloc::Global;
 use std::test::Fail;
 
-/// The flags of what is sent at a tick of the first thirty, if something is.
+/// Returns the flags of the BPDU that is sent at a tick of the first thirty, if there is one.
 fn flags_at(tick: u8) -> Option<u8> {
     if tick == 30 {
         Some(0x3d)
@@ -20,7 +20,7 @@ fn flags_at(tick: u8) -> Option<u8> {
     }
 }
 
-/// What is sent at a tick is as it should be.
+/// Checks whether the BPDU that is sent at a tick is the expected one.
 fn is_sent(alloc: Global, change: &Change, tick: u8) -> Result<bool, Fail> {
     match flags_at(tick) {
         None => Ok(change.send.len() == 0),
@@ -28,7 +28,7 @@ fn is_sent(alloc: Global, change: &Change, tick: u8) -> Result<bool, Fail> {
     }
 }
 
-/// The states that change at a tick are as they should be.
+/// Checks whether the states that change at a tick are the expected ones.
 fn is_moved(change: &Change, tick: u8) -> bool {
     let states = change.states.as_slice();
     match tick {
@@ -49,7 +49,7 @@ fn thirty_ticks_lead_to_forwarding(rt: HostRuntime) -> Result<(), Fail> {
     Ok(())
 }
 
-/// A bridge whose port 2 has heard what its port 1 says.
+/// Returns a bridge whose port 2 has heard the BPDU of its port 1.
 fn looped(alloc: Global) -> Result<Rstp, Fail> {
     let mut first = with_two_ports(alloc, 1)?;
     let _ = first.hear(2, &heard(&first_with(0x0e))?)?;

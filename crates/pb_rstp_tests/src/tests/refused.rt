@@ -1,4 +1,4 @@
-//! Calls that are refused memory, where the run refuses it, leave the bridge as it was, and do all at the next try.
+//! Calls that meet a failed allocation leave the bridge unchanged, and succeed at the next try.
 
 use super::{PROPOSAL, heard, with_one_port};
 use pb_frame::Memory;
@@ -8,7 +8,7 @@ use std::alloc::Global;
 use std::process::Abort;
 use std::test::Fail;
 
-/// What a caller can see of a bridge with port 1.
+/// The visible parts of a bridge with port 1.
 #[derive(Clone, Copy, PartialEq, Debug)]
 struct Seen {
     role: Option<(u8, Role)>,
@@ -29,14 +29,14 @@ fn look_at(bridge: &Rstp) -> Seen {
 /// A call of the second bridge.
 #[derive(Clone, Copy)]
 enum Call {
-    /// It hears the first's proposal.
+    /// It hears the proposal of the first.
     Hear,
     Tick,
-    /// Its port is set down.
+    /// Its port is disabled.
     Down,
 }
 
-/// Makes the call. How many BPDUs are to be sent, or None where there was no memory for it.
+/// Makes the call. Returns the number of BPDUs to be sent, or None if an allocation failed.
 fn make(bridge: &mut Rstp, call: Call) -> Result<Option<usize>, Fail> {
     let answer = match call {
         Call::Hear => bridge.hear(1, &heard(&PROPOSAL)?),
@@ -46,8 +46,8 @@ fn make(bridge: &mut Rstp, call: Call) -> Result<Option<usize>, Fail> {
     Ok(answer.ok().map(|change| change.send.len()))
 }
 
-/// What a call left behind: the bridge as it was seen before and after a refusal, and after it was done, with the BPDUs
-/// to be sent.
+/// The bridge after a call: as it was before and after a failed allocation, and after the call succeeded, with the
+/// BPDUs to be sent.
 #[derive(Clone, Copy)]
 struct Left {
     refused: Option<(Seen, Seen)>,
@@ -55,7 +55,7 @@ struct Left {
     sent: usize,
 }
 
-/// Makes the call, and once more where it is refused memory. Refused again, that is told.
+/// Makes the call, and again if an allocation failed. Reports a second failure.
 fn done(bridge: &mut Rstp, wanted: Call) -> Result<Left, Fail> {
     let before = look_at(bridge);
     let first = make(bridge, wanted)?;
@@ -71,8 +71,8 @@ fn done(bridge: &mut Rstp, wanted: Call) -> Result<Left, Fail> {
     })
 }
 
-/// The calls in front of the last one are made, and then this is what the last one does: the port's role and state, and
-/// how many BPDUs are to be sent.
+/// Makes the calls before the last one, and checks the result of the last: the port's role and state, and the number of
+/// BPDUs to be sent.
 fn comes_to(
     rt: &impl Abort,
     alloc: Global,

@@ -19,7 +19,7 @@ struct Carried {
     bpdu: Bpdu,
 }
 
-/// The far end of the link at a port of a bridge.
+/// Returns the far end of the link at a port of a bridge.
 fn far_end(bridge: usize, port: u8) -> (usize, u8) {
     match (bridge, port) {
         (0, 1) => (1, 1),
@@ -31,7 +31,7 @@ fn far_end(bridge: usize, port: u8) -> (usize, u8) {
     }
 }
 
-/// Puts what a bridge sends on its way.
+/// Appends the BPDUs that a bridge sends to those on their way.
 fn carry(way: &mut VecDeque<Carried>, bridge: usize, change: &Change) -> Result<(), Memory> {
     for (port, bpdu) in change.send.as_slice() {
         let (bridge, port) = far_end(bridge, *port);
@@ -44,7 +44,7 @@ fn carry(way: &mut VecDeque<Carried>, bridge: usize, change: &Change) -> Result<
     Ok(())
 }
 
-/// Takes all to where it goes, as long as something is on its way, a thousand times at most.
+/// Delivers the BPDUs on their way, at most a thousand.
 fn deliver(ring: &mut Vec<Rstp>, way: &mut VecDeque<Carried>) -> Result<(), Memory> {
     for _ in 0..1000u16 {
         let Some(c) = way.pop_front() else {
@@ -58,7 +58,7 @@ fn deliver(ring: &mut Vec<Rstp>, way: &mut VecDeque<Carried>) -> Result<(), Memo
     Ok(())
 }
 
-/// The ring after ten rounds, in each of which every bridge ticks once.
+/// Returns the ring after ten rounds, in each of which every bridge ticks once.
 fn ring(alloc: Global) -> Result<Vec<Rstp>, Memory> {
     let mut ring = Vec::new(alloc);
     for last in 1..=3u8 {
@@ -82,7 +82,7 @@ const LINKS: &[Joint] = &[
     ("L3", (3, 1), (1, 2)),
 ];
 
-/// Whether the bridges of the ring are settled.
+/// Checks whether the bridges of the ring are settled.
 fn are_settled(alloc: Global, ring: &[Rstp]) -> Result<bool, AllocError> {
     let [first, second, third] = ring else {
         return Ok(false);
@@ -95,10 +95,10 @@ const OPEN: &[(u8, PortState)] = &[(1, PortState::Forwarding), (2, PortState::Fo
 
 const CUT: &[(u8, PortState)] = &[(1, PortState::Forwarding), (2, PortState::Discarding)];
 
-/// By bridge, the states of its ports in the end.
+/// The states of each bridge's ports in the end.
 const STATES: &[&[(u8, PortState)]] = &[OPEN, OPEN, CUT];
 
-/// Whether the bridges' ports have these states.
+/// Checks whether the bridges' ports have these states.
 fn have_states(ring: &[Rstp], wanted: &[&[(u8, PortState)]]) -> bool {
     for (bridge, states) in ring.iter().zip(wanted) {
         if bridge.states() != *states {
@@ -116,14 +116,14 @@ fn a_ring_settles(rt: HostRuntime) -> Result<(), Fail> {
     Ok(())
 }
 
-/// By bridge, the roles of its ports in the end.
+/// The roles of each bridge's ports in the end.
 const ROLES: &[&[(u8, Role)]] = &[
     &[(1, Role::Designated), (2, Role::Designated)],
     &[(1, Role::Root), (2, Role::Designated)],
     &[(1, Role::Root), (2, Role::Alternate)],
 ];
 
-/// Whether the bridges' ports have these roles.
+/// Checks whether the bridges' ports have these roles.
 fn have_roles(ring: &[Rstp], wanted: &[&[(u8, Role)]]) -> bool {
     for (bridge, roles) in ring.iter().zip(wanted) {
         if bridge.roles() != *roles {

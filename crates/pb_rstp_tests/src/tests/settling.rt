@@ -1,4 +1,4 @@
-//! When bridges are settled.
+//! Tests of whether bridges are settled.
 
 use super::two::agreed;
 use super::{PROPOSAL, first_with, heard, with_one_port};
@@ -11,7 +11,7 @@ fn text(alloc: Global, name: &str) -> Result<Text, AllocError> {
     Ok(Text::from_string(String::from_str(alloc, name)?))
 }
 
-/// The bridge with the address that ends in this octet.
+/// Returns the bridge with the address that ends in this octet.
 fn planned(alloc: Global, name: &str, last: u8) -> Result<BridgePlan, AllocError> {
     Ok(BridgePlan {
         name: text(alloc, name)?,
@@ -35,7 +35,7 @@ fn end(bridge: u8, port: u8) -> End {
 /// A link between two ports, each of a bridge.
 pub(crate) type Joint = (&'static str, (u8, u8), (u8, u8));
 
-/// A link that loses nothing.
+/// Returns a link that loses nothing.
 fn link(alloc: Global, (name, a, b): Joint) -> Result<LinkPlan, AllocError> {
     Ok(LinkPlan {
         name: text(alloc, name)?,
@@ -54,7 +54,7 @@ fn links(alloc: Global, joints: &[Joint]) -> Result<Seq<LinkPlan>, AllocError> {
     Ok(Seq::from_vec(links))
 }
 
-/// Three bridges.
+/// Returns three bridges.
 fn bridges(alloc: Global) -> Result<Seq<BridgePlan>, AllocError> {
     let mut bridges = Vec::new(alloc);
     bridges.push(planned(alloc, "B1", 1)?)?;
@@ -63,7 +63,7 @@ fn bridges(alloc: Global) -> Result<Seq<BridgePlan>, AllocError> {
     Ok(Seq::from_vec(bridges))
 }
 
-/// Three bridges, of which the first ones are joined by these links.
+/// Returns the plan of three bridges, of which the first ones are joined by these links.
 pub(crate) fn plan(alloc: Global, joints: &[Joint]) -> Result<Plan, AllocError> {
     Ok(Plan {
         bridges: bridges(alloc)?,
@@ -81,7 +81,7 @@ pub(crate) fn plan(alloc: Global, joints: &[Joint]) -> Result<Plan, AllocError> 
 /// Port 1 of the first bridge to port 1 of the second.
 const PAIR: &[Joint] = &[("L1", (1, 1), (2, 1))];
 
-/// The two bridges are settled.
+/// Checks whether the two bridges are settled.
 fn are_settled(alloc: Global, first: &Rstp, second: &Rstp) -> Result<bool, AllocError> {
     let plan = plan(alloc, PAIR)?;
     Ok(is_settled(&[first, second], &plan))
@@ -99,14 +99,14 @@ fn two_bridges_settle_by_a_proposal(rt: HostRuntime) -> Result<(), Fail> {
     Ok(())
 }
 
-/// The second bridge after the exchange.
+/// Returns the second bridge after the exchange.
 fn second_at_the_end(alloc: Global) -> Result<Rstp, Fail> {
     let (mut second, _) = agreed(alloc)?;
     let _ = second.hear(1, &heard(&first_with(0x3d))?)?;
     Ok(second)
 }
 
-/// The first bridge after the exchange.
+/// Returns the first bridge after the exchange.
 fn first_at_the_end(alloc: Global) -> Result<Rstp, Fail> {
     let mut first = with_one_port(alloc, 1)?;
     let _ = first.tick()?;

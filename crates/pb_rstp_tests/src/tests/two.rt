@@ -12,7 +12,7 @@ const FIRST: u64 = 0x8000_0200_0000_0001;
 
 const SECOND: u64 = 0x8000_0200_0000_0002;
 
-/// What the first bridge's port 1 offers the second's.
+/// The vector that the first bridge's port 1 offers to the second's.
 const OFFERED: Vector = Vector {
     root: FIRST,
     cost: 0,
@@ -24,10 +24,10 @@ const OFFERED: Vector = Vector {
 /// The second bridge hears the first's proposal.
 const AGREES: Row = Row::Does(Call::Hear(1, Speech::First(0x0e)), ANY);
 
-/// The second bridge hears that the first has opened its port.
+/// The second bridge hears that the first's port is Forwarding.
 const HEARS_AGAIN: Row = Row::Does(Call::Hear(1, Speech::First(0x3d)), ANY);
 
-/// A tick of which nothing is looked at.
+/// A tick of which nothing is checked.
 const TICKS: Row = Row::Does(Call::Tick, ANY);
 
 /// A tick at which no state changes.
@@ -62,7 +62,7 @@ fn the_first_proposes(rt: HostRuntime) -> Result<(), Fail> {
     walk(&rt, rt.alloc(), &mut with_one_port(rt.alloc(), 1)?, ROWS)
 }
 
-/// The second bridge after the first's proposal, and what it told then.
+/// Returns the second bridge after the first's proposal, and the change of that call.
 pub(crate) fn agreed(alloc: Global) -> Result<(Rstp, Change), Fail> {
     let mut second = with_one_port(alloc, 2)?;
     let change = second.hear(1, &heard(&PROPOSAL)?)?;
@@ -161,7 +161,7 @@ fn old_bpdus_are_not_stored(rt: HostRuntime) -> Result<(), Fail> {
     walk(&rt, rt.alloc(), &mut with_one_port(rt.alloc(), 2)?, ROWS)
 }
 
-/// What port 1 of the second bridge offers while it is the root itself.
+/// The vector that port 1 of the second bridge offers while the bridge is the root.
 const OWN: Vector = Vector {
     root: SECOND,
     cost: 0,
@@ -170,7 +170,7 @@ const OWN: Vector = Vector {
     receiving: 0x8001,
 };
 
-/// What it offers behind the first bridge.
+/// The vector that it offers with the first bridge as the root.
 const BEHIND: Vector = Vector {
     root: FIRST,
     cost: 20_000,

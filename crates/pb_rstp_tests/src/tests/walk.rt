@@ -11,7 +11,7 @@ use std::alloc::Global;
 use std::process::Abort;
 use std::test::Fail;
 
-/// What the second bridge answers to the first's proposal.
+/// The reply of the second bridge to the first's proposal.
 const ANSWER: [u8; 53] = [
     0x01, 0x80, 0xc2, 0x00, 0x00, 0x08, 0x02, 0x00, 0x00, 0x00, 0x00, 0x02, 0x00, 0x27, 0x42, 0x42,
     0x03, 0x00, 0x00, 0x02, 0x02, 0x79, 0x80, 0x00, 0x02, 0x00, 0x00, 0x00, 0x00, 0x01, 0x00, 0x00,
@@ -19,7 +19,7 @@ const ANSWER: [u8; 53] = [
     0x02, 0x00, 0x0f, 0x00, 0x00,
 ];
 
-/// What the second bridge says when it hears the first no more.
+/// The BPDU of the second bridge when it no longer hears the first.
 const ALONE: [u8; 53] = [
     0x01, 0x80, 0xc2, 0x00, 0x00, 0x08, 0x02, 0x00, 0x00, 0x00, 0x00, 0x02, 0x00, 0x27, 0x42, 0x42,
     0x03, 0x00, 0x00, 0x02, 0x02, 0x0e, 0x80, 0x00, 0x02, 0x00, 0x00, 0x00, 0x00, 0x02, 0x00, 0x00,
@@ -27,26 +27,26 @@ const ALONE: [u8; 53] = [
     0x02, 0x00, 0x0f, 0x00, 0x00,
 ];
 
-/// What is said in a frame.
+/// The BPDU in a frame.
 #[derive(Clone, Copy)]
 pub(super) enum Speech {
-    /// What the first bridge says on its port 1, with these flags.
+    /// The BPDU of the first bridge on its port 1, with these flags.
     First(u8),
-    /// The same, said on its port 2.
+    /// The BPDU of the first bridge on its port 2, with these flags.
     FirstOnPort2(u8),
-    /// Its proposal, with this cost.
+    /// The proposal of the first bridge, with this cost.
     Costly(u32),
-    /// Its proposal, of this age.
+    /// The proposal of the first bridge, of this age.
     Aged(u16),
-    /// The second bridge's answer.
+    /// The reply of the second bridge.
     Answer,
-    /// The same, with the greatest cost.
+    /// The reply of the second bridge, with the greatest cost.
     CostlyAnswer,
-    /// What the second bridge says alone.
+    /// The BPDU of the second bridge alone.
     Alone,
 }
 
-/// What a bridge is asked for.
+/// A call of a bridge.
 #[derive(Clone, Copy)]
 pub(super) enum Call {
     Tick,
@@ -54,42 +54,42 @@ pub(super) enum Call {
     Admin(u8, bool),
 }
 
-/// What a call tells, where it is looked at.
+/// The result of a call, as far as it is checked.
 #[derive(Clone, Copy)]
 pub(super) struct Told {
     /// The states that change.
     pub(super) states: Option<&'static [(u8, PortState)]>,
     /// The ports that are flushed.
     pub(super) flush: Option<&'static [u8]>,
-    /// What is sent, on port 1 alone.
+    /// The BPDU that is sent, on port 1 alone.
     pub(super) sent: Option<Option<Speech>>,
 }
 
-/// Nothing of it is looked at.
+/// No part is checked.
 pub(super) const ANY: Told = Told {
     states: None,
     flush: None,
     sent: None,
 };
 
-/// What is done with a bridge, or seen of it.
+/// A call of a bridge, or a check of it.
 #[derive(Clone, Copy)]
 pub(super) enum Row {
-    /// A call tells this.
+    /// A call has this result.
     Does(Call, Told),
     /// The roles of its ports.
     Roles(&'static [(u8, Role)]),
     /// The states of its ports.
     States(&'static [(u8, PortState)]),
-    /// What a port has stored.
+    /// The vector that a port has stored.
     Stored(u8, Option<Vector>),
-    /// What a port offers, where the bridge has it.
+    /// The vector that a port offers, if the bridge has the port.
     Offers(u8, Option<Vector>),
-    /// The root, the cost of the way to it and the receiving port, in the root vector.
+    /// The root, the root path cost and the receiving port, in the root vector.
     Root(u64, u32, u16),
 }
 
-/// Walks a bridge through the rows. A row that does not hold is named by its number from 0.
+/// Walks a bridge through the rows. A failure names the row by its number from 0.
 pub(super) fn walk(
     rt: &impl Abort,
     alloc: Global,
@@ -130,7 +130,7 @@ fn called(bridge: &mut Rstp, call: Call) -> Result<Change, Fail> {
     }
 }
 
-/// The states that change and the ports that are flushed are those told.
+/// Checks whether the states that change and the ports that are flushed are the expected ones.
 fn is_moved(change: &Change, told: Told) -> bool {
     let is_state = match told.states {
         Some(states) => change.states.as_slice() == states,
@@ -142,7 +142,7 @@ fn is_moved(change: &Change, told: Told) -> bool {
     }
 }
 
-/// What is sent is what is told.
+/// Checks whether the BPDU that is sent is the expected one.
 fn is_sent(alloc: Global, change: &Change, told: Option<Option<Speech>>) -> Result<bool, Fail> {
     match told {
         None => Ok(true),
@@ -154,7 +154,7 @@ fn is_sent(alloc: Global, change: &Change, told: Option<Option<Speech>>) -> Resu
     }
 }
 
-/// The last octet of the sender's address, and the frame.
+/// Returns the last octet of the sender's address, and the frame.
 fn frame_of(speech: Speech) -> (u8, [u8; 53]) {
     match speech {
         Speech::First(flags) | Speech::FirstOnPort2(flags) => (1, first_with(flags)),
@@ -169,7 +169,7 @@ fn frame_of(speech: Speech) -> (u8, [u8; 53]) {
     }
 }
 
-/// What a frame tells.
+/// Returns the BPDU in a frame.
 pub(super) fn bpdu_of(speech: Speech) -> Result<Bpdu, Fail> {
     let mut bpdu = heard(&frame_of(speech).1)?;
     match speech {
@@ -181,14 +181,14 @@ pub(super) fn bpdu_of(speech: Speech) -> Result<Bpdu, Fail> {
     Ok(bpdu)
 }
 
-/// The list has the port.
+/// Checks whether the list has the port.
 fn has_port(roles: &[(u8, Role)], port: u8) -> bool
     ensures { result ≡ list_any (λ r. r.0 == port) roles.now }
 {
     roles.iter().any(|r| r.0 == port)
 }
 
-/// What a port offers, where the bridge has it.
+/// Returns the vector that a port offers, if the bridge has the port.
 fn offer_of(bridge: &Rstp, port: u8) -> Option<Vector> {
     if has_port(bridge.roles(), port) {
         Some(bridge.vector(port))

@@ -1,4 +1,4 @@
-//! What a place that only counts its steps does without memory.
+//! The calls that a place which only counts its steps makes without an allocation.
 
 use super::{Kind, fed, item, lane, poll, port};
 use pb_frame::Memory;
@@ -7,7 +7,7 @@ use pb_link::{CustomerPlace, Lane};
 use std::alloc::Global;
 use std::test::Fail;
 
-/// A port that holds a frame, with room for one more step.
+/// Returns a port that holds a frame, with one more step reserved.
 fn full_port(alloc: Global) -> Result<CustomerPlace, Memory> {
     let mut place = port(alloc, Kind::Counted);
     poll(alloc, &mut place)?;
@@ -15,7 +15,7 @@ fn full_port(alloc: Global) -> Result<CustomerPlace, Memory> {
     Ok(place)
 }
 
-/// A lane that holds an item, with room for one more step.
+/// Returns a lane that holds an item, with one more step reserved.
 fn full_lane(alloc: Global) -> Result<Lane, Memory> {
     let item = item(alloc, 0)?;
     let mut lane = lane(alloc, Kind::Counted, Seq::from_vec(Vec::new(alloc)));
@@ -27,7 +27,7 @@ fn full_lane(alloc: Global) -> Result<Lane, Memory> {
     Ok(lane)
 }
 
-/// What the lane puts, if anything.
+/// Returns the item that the lane puts, if there is one.
 fn put(lane: &mut Lane) -> Result<Option<Item>, Memory> {
     if lane.is_hand_empty() {
         return Ok(None);
@@ -35,8 +35,7 @@ fn put(lane: &mut Lane) -> Result<Option<Item>, Memory> {
     Ok(Some(lane.release()?))
 }
 
-/// `check-memory` refuses each request for memory in turn, and all from each one on: the calls that are asserted
-/// make none.
+/// `check-memory` lets each allocation fail in turn, and all from each one on. The asserted calls make none.
 #[test]
 fn what_is_counted_is_handed_on_without_memory(rt: HostRuntime) -> Result<(), Fail> {
     let wanted = item(rt.alloc(), 0)?;

@@ -8,13 +8,13 @@ use std::alloc::{AllocError, Global};
 use std::process::Abort;
 use std::test::Fail;
 
-/// A lane that loses its second item and its fourth.
+/// Returns a lane that loses its second item and its fourth.
 fn lossy(alloc: Global, kind: Kind) -> Result<Lane, AllocError> {
     let losses = vec![in alloc; 1u64, 3]?;
     Ok(lane(alloc, kind, Seq::from_vec(losses)))
 }
 
-/// The item of this number is taken, if none is in hand.
+/// Takes the item of this number, if none is in hand. Returns whether it did.
 fn take(alloc: Global, lane: &mut Lane, number: u64) -> Result<bool, Memory> {
     let item = item(alloc, number)?;
     lane.reserve()?;
@@ -25,7 +25,7 @@ fn take(alloc: Global, lane: &mut Lane, number: u64) -> Result<bool, Memory> {
     Ok(true)
 }
 
-/// The item that is put, if one is in hand.
+/// Returns the item that is put, if one is in hand.
 fn put(lane: &mut Lane) -> Result<Option<Item>, Memory> {
     if lane.is_hand_empty() {
         return Ok(None);
@@ -33,7 +33,7 @@ fn put(lane: &mut Lane) -> Result<Option<Item>, Memory> {
     Ok(Some(lane.release()?))
 }
 
-/// What is done with a lane, or seen of it. Items are those of customer port 7, by number.
+/// A call of a lane, or a check of it. Items are those of customer port 7, by number.
 #[derive(Clone, Copy)]
 enum Row {
     /// Whether an item is taken.
@@ -42,11 +42,11 @@ enum Row {
     Holds(Option<u64>),
     /// The item that is put, if one is.
     Puts(Option<u64>),
-    /// So many steps were taken.
+    /// This many steps were taken.
     Steps(u64),
 }
 
-/// Whether this item, or none, is in hand.
+/// Checks whether this item, or none, is in hand.
 fn has_in_hand(alloc: Global, lane: &Lane, number: Option<u64>) -> Result<bool, Memory> {
     match number {
         None => Ok(lane.hand().is_none() && lane.is_hand_empty()),
@@ -57,7 +57,7 @@ fn has_in_hand(alloc: Global, lane: &Lane, number: Option<u64>) -> Result<bool, 
     }
 }
 
-/// Whether this item, or none, is put.
+/// Checks whether this item, or none, is put.
 fn puts(alloc: Global, lane: &mut Lane, number: Option<u64>) -> Result<bool, Memory> {
     match number {
         None => Ok(put(lane)?.is_none()),
@@ -68,7 +68,7 @@ fn puts(alloc: Global, lane: &mut Lane, number: Option<u64>) -> Result<bool, Mem
     }
 }
 
-/// Whether a row holds.
+/// Checks whether a row holds.
 fn holds(alloc: Global, lane: &mut Lane, row: Row) -> Result<bool, Memory> {
     match row {
         Row::Takes(number, wanted) => Ok(take(alloc, lane, number)? == wanted),
@@ -78,7 +78,7 @@ fn holds(alloc: Global, lane: &mut Lane, row: Row) -> Result<bool, Memory> {
     }
 }
 
-/// Each row holds, one after the other, of a lane of each kind. A row that does not is named by its number from 0.
+/// Checks that the rows hold one after the other, of a lane of each kind. A failure names the row by its number from 0.
 fn walk(rt: &impl Abort, alloc: Global, rows: &[Row]) -> Result<(), Fail> {
     for kind in KINDS {
         let mut lane = lossy(alloc, kind)?;
@@ -125,7 +125,7 @@ fn a_lane_holds_one_item(rt: HostRuntime) -> Result<(), Fail> {
     walk(&rt, rt.alloc(), ROWS)
 }
 
-/// The steps of a lane that took three items and put those that it did not lose.
+/// Returns the steps of a lane that took three items and put those that it did not lose.
 fn steps_of_three(alloc: Global, kind: Kind) -> Result<Vec<Step>, Memory> {
     let mut lane = lossy(alloc, kind)?;
     for number in 0..3u64 {
@@ -135,7 +135,7 @@ fn steps_of_three(alloc: Global, kind: Kind) -> Result<Vec<Step>, Memory> {
     Ok(lane.into_steps().into_vec())
 }
 
-/// Whether the step at a place takes the item of a number, and loses it or not.
+/// Checks whether the step at an index takes the item of a number, and loses it or not.
 fn takes_at(
     alloc: Global,
     steps: &[Step],
@@ -146,13 +146,13 @@ fn takes_at(
     Ok(steps.get(place) == Some(&Step::Take { number, item, lost }))
 }
 
-/// Whether the step at a place puts the item of a number.
+/// Checks whether the step at an index puts the item of a number.
 fn puts_at(alloc: Global, steps: &[Step], place: usize, number: u64) -> Result<bool, AllocError> {
     let item = item(alloc, number)?;
     Ok(steps.get(place) == Some(&Step::Put { item }))
 }
 
-/// The items that are taken, and whether they are lost, by place.
+/// The items that are taken, and whether they are lost, by index.
 const TAKEN: &[(usize, (u64, bool))] = &[(0, (0, false)), (2, (1, true)), (3, (2, false))];
 
 #[test]
@@ -164,7 +164,7 @@ fn a_lane_tells_what_it_took(rt: HostRuntime) -> Result<(), Fail> {
     Ok(())
 }
 
-/// The items that are put, by place.
+/// The items that are put, by index.
 const PUT: &[(usize, u64)] = &[(1, 0), (4, 2)];
 
 #[test]

@@ -9,7 +9,7 @@ use std::alloc::Global;
 use std::process::Abort;
 use std::test::Fail;
 
-/// A lane that loses its second item, and the ends of the two rings that it joins.
+/// A lane that loses its second item, and the ends of its two rings.
 #[derive(Drop)]
 struct Joined {
     near: Producer<Item>,
@@ -19,12 +19,12 @@ struct Joined {
     far: Consumer<Item>,
 }
 
-/// What is done with it, or seen of it. Items are those of customer port 7, by number.
+/// A call of the lane, or a check of it. Items are those of customer port 7, by number.
 #[derive(Clone, Copy)]
 enum Row {
     /// An item is sent to the lane.
     Sent(u64),
-    /// An item that another sends comes in between, behind the lane.
+    /// An item of another sender is pushed onto the ring after the lane.
     Between(u64),
     /// Whether the lane takes an item.
     Takes(bool),
@@ -32,15 +32,15 @@ enum Row {
     Puts(bool),
     /// Whether nothing is in its hand.
     HandIsEmpty(bool),
-    /// An item has come.
+    /// This item has come.
     Came(u64),
-    /// Nothing has come.
+    /// No item has come.
     NoneCame,
-    /// So many steps were taken.
+    /// This many steps were taken.
     Steps(u64),
 }
 
-/// A lane between a ring that has room for four items and one that has room for so many.
+/// Returns a lane between a ring of four items and one of `room` items.
 fn between(alloc: Global, kind: Kind, room: usize) -> Result<Joined, Memory> {
     let (near, from) = RingBuffer::new(alloc, 4)?;
     let (to, far) = RingBuffer::new(alloc, room)?;
@@ -54,19 +54,19 @@ fn between(alloc: Global, kind: Kind, room: usize) -> Result<Joined, Memory> {
     })
 }
 
-/// An item is pushed onto a ring.
+/// Pushes an item onto a ring. Returns whether the ring was not full.
 fn push(alloc: Global, to: &mut Producer<Item>, number: u64) -> Result<bool, Memory> {
     let item = item(alloc, number)?;
     Ok(to.push(item).is_ok())
 }
 
-/// The next item of a ring is that of this number.
+/// Checks whether the next item of a ring is that of this number.
 fn is_next(alloc: Global, from: &mut Consumer<Item>, number: u64) -> Result<bool, Memory> {
     let wanted = item(alloc, number)?;
     Ok(from.pop().is_ok_and(|item| item == wanted))
 }
 
-/// Whether a row holds.
+/// Checks whether a row holds.
 fn holds(alloc: Global, joined: &mut Joined, row: Row) -> Result<bool, Memory> {
     match row {
         Row::Sent(number) => push(alloc, &mut joined.near, number),
@@ -80,7 +80,7 @@ fn holds(alloc: Global, joined: &mut Joined, row: Row) -> Result<bool, Memory> {
     }
 }
 
-/// Each row holds, one after the other, of a lane of each kind. A row that does not is named by its number from 0.
+/// Checks that the rows hold one after the other, of a lane of each kind. A failure names the row by its number from 0.
 fn walk(rt: &impl Abort, alloc: Global, room: usize, rows: &[Row]) -> Result<(), Fail> {
     assert!(rt; 0 < room && room <= 4);
     for kind in KINDS {
