@@ -31,8 +31,8 @@ pub(crate) fn receive_at(
     let Some(item) = inbox.pop_front() else {
         unreachable!();
     };
-    match bridge.receive(port, item) {
-        Ok(_) => Ok(()),
+    match bridge.take_in(port, item) {
+        Ok(()) => Ok(()),
         Err((fault, item)) => {
             let _ = inbox.push_front(item);
             Err(fault)

@@ -49,9 +49,8 @@ impl Bridge {
         ensures reserved { self.old.is_reserved ≡ true → IsOk result }
     {
         let given = self.admit(port, item)?;
-        // The step owns the outcome, which is part of the record. It is read back here, as a copy of a few octets: the
-        // worker of a run (pb_workers) uses it, and pb_net drops it. Returned through `relay` and `carry`, it would be
-        // moved twice for every caller.
+        // The step owns the outcome, which is part of the record. It is read back here, as a copy of a few octets, for
+        // the worker of a run. Returned through `relay` and `carry`, it would be moved twice for every caller.
         let outcome = newest_outcome(&given, self.steps.as_slice());
         Ok(outcome)
     }
