@@ -1,4 +1,4 @@
--- The ports of the bridge send what waits there (used by `drain` and `Switch::handle`).
+-- The ports of the bridge send the items that wait there (used by `drain` and `Switch::handle`).
 use Rattle.std.proofs.Common.{◌≡◌, ℕ, suc, ◌+◌, ◌<◌, ◌≤◌, ◌==◌, inl, inr, max, cond, true, false, nat_le}
 use Rattle.std.proofs.Common.{nat_lt, List, [], ◌∷◌, ◌++◌, length, refl, sym, ap, subst, ◌∙◌, arith, append-nil}
 use Rattle.std.proofs.Common.{ne_eqb}

@@ -60,7 +60,7 @@ pub data HasDrained (port : ℕ) (old new : BridgeView) : Type 0 where
   nothing : waits old port ≡ 0 → new ≡ old → HasDrained port old new
   one : (item : Item) → 0 < waits old port → new ≡ with_step old (Transmit port item) → HasDrained port old new
 
--- the ports before this one have sent what waited there
+-- the ports before this one have sent the items that waited there
 pub record IsDraining (ports port next : ℕ) (old new : BridgeView) : Type 0 where
   pub alone : IsAlone ports new
   pub same : receipts new.steps ≡ receipts old.steps

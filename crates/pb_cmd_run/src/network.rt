@@ -191,7 +191,7 @@ fn tell<W: Write, E: Write>(
 ///
 /// `Memory` if an allocation failed: for the ports or the workers, and then nothing has run, or for the report after
 /// the run. `Spawn` if a thread can't be started, and then nothing has run. `Write` if the report can't be written.
-/// After any fault but `Write` nothing was written to `writer`. `Ports` does not occur, since there are as many ports
+/// After any fault but `Write` nothing was written to `writer`. `Ports` does not occur, because there are as many ports
 /// as customer ports.
 fn run_ports<R, G: RunProgress, W: Write, E: Write>(
     rt: &R,
@@ -313,7 +313,7 @@ where
 /// be started. `Write` if a write to `writer` failed, and then it is not known how much was written.
 ///
 /// Nothing has run after `Path` and `Spawn`, and they occur only if the file is a plan. After any fault but `Write`
-/// nothing was written to `writer`. `Ports` does not occur, since a plan file has as many ports as its plan.
+/// nothing was written to `writer`. `Ports` does not occur, because a plan file has as many ports as its plan.
 pub fn run_network<R, G: RunProgress, W: Write, E: Write>(
     rt: &R,
     alloc: Global,

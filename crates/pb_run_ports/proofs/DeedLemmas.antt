@@ -1,4 +1,4 @@
--- Operations in order (used by the loops of `opened.rt`).
+-- Operations in order (used by the functions of `opened.rt`).
 use Rattle.std.proofs.Common.{◌≡◌, List, [], ◌++◌, Option, Some, None, refl, sym, ap, ◌∙◌, subst, append_assoc}
 use Rattle.std.proofs.Common.{append-nil}
 use Rattle.pb_run_ports.specs.Deeds.{Adds, Begun, HasBegun}

@@ -29,14 +29,14 @@ first_unknown-find names (e ∷ es) =
       | inr other ↦ rw other
     ]
 
--- a fact of the key at an index is a fact of one of the keys (used by `check_keys`)
+-- a fact of the key at an index is a fact of one of the keys (used by `refused_at`)
 pub some_at : (P : KeyRule → Type 0) (keys : List Key) (i : ℕ) (d : Key) → i < length keys
     → P (rule_of (get_or keys i d)) → SomeOf P (rules_of keys)
 some_at P [] i d h p = absurd (omega arith)
 some_at P (k ∷ ks) zero d h p = inl p
 some_at P (k ∷ ks) (suc i) d h p = inr (some_at P ks i d (omega arith) p)
 
--- the fault of a refused key refuses its table (used by `check_keys`)
+-- the fault of a refused key refuses its table (used by `refused_at`)
 pub refuses_told : (keys : List KeyRule) (key_table : KeyTable) (row : Members) (f : KeyFault) (path : List ℕ) (e : PlanFault)
     → RefusesKey keys key_table row f path → (e ≡ Memory) ⊎ (e ≡ fault_of f path) → RefusesRow keys key_table row e
 refuses_told keys key_table row Missing path e h (inl m) = rw m tt

@@ -99,8 +99,8 @@ pub fn read_plan_file(alloc: Global, file: &[u8]) -> Result<PlanFile, PlanFault>
 /// # Errors
 ///
 /// `Memory` if an allocation failed. `Utf8` if the file isn't UTF-8, `Toml` if it isn't a TOML document. Otherwise the
-/// first rule that the file breaks: tables are checked in the order network, bridge, link, service, event, port, and
-/// the keys of a table in the order of the format, unknown keys last.
+/// first rule that the file breaks. Keys at the top are checked first, then the tables in the order network, bridge,
+/// link, service, event, port. The keys of a table are checked in the order of the format, and unknown keys last.
 pub fn read_plan(alloc: Global, file: &[u8]) -> Result<(Plan, Vec<PortSpec>), PlanFault>
     ensures plan { IfOk result (λ r. Tells file.now (λ document. IsPlanOf document r.0 r.1.items)) }
     ensures sound { IfOk result (λ r. IsSound r.0) }

@@ -409,7 +409,7 @@ port = 1
 up = false
 "#;
 
-/// Two events that never come, since no clock ticks.
+/// Two events that never come, because no clock ticks.
 pub(super) const NEVER: &str = r#"
 [[event]]
 at = 1
