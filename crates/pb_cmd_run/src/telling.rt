@@ -30,8 +30,8 @@ fn word_of(verb: Verb) -> &'static str
     match verb {
         Verb::Read => "read",
         Verb::Write => "write",
-        Verb::Connect => "connect",
-        Verb::Listen => "listen",
+        Verb::Connect => "connect to",
+        Verb::Listen => "listen on",
     }
 }
 
@@ -40,7 +40,7 @@ fn put_line(out: &mut String, name: &str, word: &str, path: &str, why: &str) -> 
     ensures { OnOk result (string_bytes out.new ≡ string_bytes out.old
         ++ path_line name.now word.now path.now why.now) }
 {
-    writeln!(out, "port {name}: {word} {path}: {why}")?;
+    writeln!(out, "error: port {name}: cannot {word} {path}: {why}")?;
     Ok(())
 }
 
@@ -62,7 +62,8 @@ fn write_line<W: Write>(
     write_whole(writer, out.as_bytes())
 }
 
-/// Writes `port NAME: VERB PATH: WHY`, for a path that a port could not use, with what the system says of it.
+/// Writes `error: port NAME: cannot VERB PATH: WHY`, for a path that a port could not use, with what the system says of
+/// it.
 pub(crate) fn write_path_fault<W: Write>(
     alloc: Global,
     name: &str,
@@ -95,7 +96,8 @@ fn sharing(alloc: Global, customers: &[CustomerPlan], other: FileUser) -> Result
     }
 }
 
-/// Writes `port NAME: VERB PATH: WHY`, why the ports of a plan could not be opened, and nothing where memory ran out.
+/// Writes `error: port NAME: cannot VERB PATH: WHY`, why the ports of a plan could not be opened, and nothing where
+/// memory ran out.
 ///
 /// `Write` is answered where a write failed, `Memory` where memory for the text ran out.
 pub(crate) fn write_open_fault<W: Write>(

@@ -15,7 +15,7 @@ use Rattle.pb_run_losses.specs.declared.strictness.Strictness.TheVariants.{Stric
 
 -- the bridges have not settled
 abbrev pub unsettled_line : Result (Option Bool) Memory → List ℕ
-unsettled_line (Ok (Some false)) = codes "bridges not settled" ++ 10 ∷ []
+unsettled_line (Ok (Some false)) = codes "bridges not converged" ++ 10 ∷ []
 unsettled_line _ = []
 
 -- what ports could not write, what bridges had no room for, and whether the bridges have settled
