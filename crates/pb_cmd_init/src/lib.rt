@@ -1,4 +1,4 @@
-//! The command `init`: writes a starter plan for a line, a ring or a star of bridges. Stands on pb_frame and
+//! The command `init`: writes a starter plan for a line, a ring or a star of bridges. Uses pb_frame and
 //! pb_messages. Begin with [`write_plan`].
 #![tactic(auto)]
 

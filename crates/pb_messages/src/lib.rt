@@ -1,5 +1,5 @@
 //! Messages that several commands print: the word of a fault, `line N: bad`, and the reason for which a frame was
-//! dropped. Also writes a whole text, and reads the arguments of a line. Stands on pb_lan and pb_lines. Begin with
+//! dropped. Also writes a whole text, and reads the arguments of a line. Uses pb_lan and pb_lines. Begin with
 //! [`CommandFault`].
 #![tactic(auto)]
 
