@@ -152,7 +152,7 @@ begin "draw does not overwrite its plan"
 cp examples/metro.toml out/kept.toml
 runs out/nothing draw out/kept.toml -o ./out/../out/kept.toml
 ended 2
-says out/errors "error: --output ./out/../out/kept.toml is the plan file"
+says out/errors "error: invalid value './out/../out/kept.toml' for '--output <PATH>': it is the plan file"
 same out/kept.toml examples/metro.toml
 
 begin "run record.toml"
@@ -186,7 +186,7 @@ runs out/settle.all run --strict --settle out/settle.toml
 ended 0
 without_links out/settle.all out/settle.report
 same out/settle.report examples/clock.report
-has_line out/errors 'bridges settled after [0-9]* ticks'
+has_line out/errors 'bridges converged after [0-9]* ticks'
 
 begin "run failover-run.toml"
 runs out/failover-run.all run --strict examples/failover-run.toml
@@ -209,19 +209,19 @@ cp examples/captures/provider.pcap "$keep"
 rm -f out/made.pcap out/none.sock
 begin "a capture is kept if a socket is missing"
 plan "$(capture "$none" "$keep")" "$(socket out/none.sock)" >out/refused.toml
-refuses "port C2: connect out/none.sock: No such file or directory (os error 2)"
+refuses "error: port C2: cannot connect to out/none.sock: No such file or directory (os error 2)"
 same "$keep" examples/captures/provider.pcap
 begin "a capture is kept that is read too"
 plan "$(capture "$keep" ./out//keep.pcap)" >out/refused.toml
-refuses "port C1: write ./out//keep.pcap: also read by port C1"
+refuses "error: port C1: cannot write ./out//keep.pcap: also read by port C1"
 same "$keep" examples/captures/provider.pcap
 begin "a capture is kept that two ports write"
 plan "$(capture "$none" "$keep")" "$(capture examples/captures/camera.pcap "out/../$keep")" >out/refused.toml
-refuses "port C2: write out/../$keep: also written by port C1"
+refuses "error: port C2: cannot write out/../$keep: also written by port C1"
 same "$keep" examples/captures/provider.pcap
 begin "a capture is not made if another can't be"
 plan "$(capture "$none" out/made.pcap)" "$(capture "$none" out/none/c2.pcap)" >out/refused.toml
-refuses "port C2: write out/none/c2.pcap: No such file or directory (os error 2)"
+refuses "error: port C2: cannot write out/none/c2.pcap: No such file or directory (os error 2)"
 missing out/made.pcap
 
 ln -sf refused.toml out/refused.link
@@ -229,7 +229,7 @@ for it in out/refused.toml out/refused.link; do
     begin "a port that writes the plan file, as $it"
     plan "$(capture "$none" "$it")" >out/refused.toml
     cp out/refused.toml out/refused.kept
-    refuses "port C1: write $it: also the plan file"
+    refuses "error: port C1: cannot write $it: also the plan file"
     same out/refused.toml out/refused.kept
 done
 # (the gate refuses a folder with links)
@@ -238,7 +238,7 @@ rm -f out/refused.link
 begin "a socket is removed if a later file is missing"
 rm -f out/made.sock
 plan 'kind = "socket"\nlisten = "out/made.sock"' "$(capture out/none.pcap out/made.pcap)" >out/refused.toml
-refuses "port C2: read out/none.pcap: No such file or directory (os error 2)"
+refuses "error: port C2: cannot read out/none.pcap: No such file or directory (os error 2)"
 missing out/made.sock
 missing out/made.pcap
 
@@ -249,7 +249,8 @@ runs out/pcapng.all run out/pcapng.toml
 ended 3
 tail -n 1 out/pcapng.all >out/pcapng.report
 says out/pcapng.report "fault: port C1 1"
-says out/errors "port C1: out/wrong.pcapng is pcapng: editcap -F pcap writes what is read here"
+says out/errors "error: port C1: cannot read out/wrong.pcapng: it is a pcapng file
+hint: convert it to pcap by \`editcap -F pcap\`"
 
 # The writer of the named pipe comes late, and holds up nobody.
 begin "captures by standard input and by a named pipe"
@@ -298,9 +299,9 @@ is_wrong() {
     done
 }
 printf '[network]\nageing = 300\n\n[[bridge]]\nname = "B1"\n' >out/wrong.toml
-is_wrong "plan: 3 missing bridge[0].address" "out/wrong.toml: line 4"
+is_wrong "plan: 3 missing bridge[0].address" "error: out/wrong.toml: invalid plan at line 4"
 printf '[network]\nageing = 300 300\n' >out/wrong.toml
-is_wrong "plan: 2 toml" "out/wrong.toml: line 2, column 10"
+is_wrong "plan: 2 toml" "error: out/wrong.toml: invalid plan at line 2, column 10"
 printf '[[service]]\nname = "S"\nvid = %s\n' 1 2 >out/wrong.toml
 is_wrong "plan: 7 twice S" ""
 
@@ -340,7 +341,8 @@ begin "control without a run"
 runs out/wait.answer control out/net.control stop
 ended 3
 says out/wait.answer "fault: path"
-says out/errors "out/net.control: no run listens there: start one by \`pbnet run --control out/net.control\`"
+says out/errors "error: cannot connect to out/net.control: no run listens there
+hint: start one by \`pbnet run FILE --control out/net.control\`"
 
 begin "run sockets.toml"
 peer out/peer python3 examples/peer.py

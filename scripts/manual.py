@@ -36,10 +36,10 @@ def run(*command):
     try:
         done = subprocess.run(command, stdin=subprocess.DEVNULL, capture_output=True, text=True)
     except OSError as error:
-        sys.exit(f"manual: {command[0]} does not start: {error.strerror}")
+        sys.exit(f"error: cannot run {command[0]}: {error.strerror}")
     if done.returncode or not done.stdout.strip():
         said = f"ended with status {done.returncode} and printed: {done.stdout}{done.stderr}"
-        sys.exit(f"manual: `{' '.join(command)}` {said}")
+        sys.exit(f"error: `{' '.join(command)}` {said}")
     return done.stdout
 
 
@@ -84,7 +84,7 @@ def parse(text):
     """Returns the page of help that this text is."""
     head, found, rest = text.partition("Usage: ")
     if not found:
-        sys.exit(f"manual: this help has no line `Usage:`:\n{text}")
+        sys.exit(f"error: this help has no line `Usage:`:\n{text}")
     usage, _, rest = rest.partition("\n\n")
     sections, notes = sections_of(rest.rstrip("\n").split("\n"))
     sections = [(title, entries_of(lines)) for title, lines in sections]

@@ -44,7 +44,7 @@ def toolchain():
     """Loads the toolchain's script rt as a module, and rtlib.py with it."""
     found = shutil.which("rt")
     if not found:
-        raise NoKit("the command rt of the Rattle toolchain is not on the path")
+        raise NoKit("the command rt of the Rattle toolchain is not on the PATH")
     sys.dont_write_bytecode = True
     loader = importlib.machinery.SourceFileLoader("rt_script", os.path.realpath(found))
     rt = importlib.util.module_from_spec(importlib.util.spec_from_loader("rt_script", loader))
@@ -74,7 +74,7 @@ def with_below(crates, names):
     """Returns these crates and all below them, each after those that it uses."""
     for name in names:
         if name not in crates:
-            sys.exit(f"prove: crates.txt has no crate {name}")
+            sys.exit(f"error: crates.txt has no crate {name}")
     wanted = {below.name for name in names for below in [*crates[name].below(), crates[name]]}
     return [it for it in crates.values() if it.name in wanted]
 
@@ -546,10 +546,10 @@ def prove_tests(root, names, processors=None):
             continue
         said = prove_tests_of(crate, processors or toolchain().processors())
         if said:
-            print(f"{crate.name}: its tests are NOT PROVED:", *[it for it in said.splitlines() if not QUIET.match(it)][-60:], sep="\n", file=sys.stderr)
+            print(f"error: the tests of {crate.name} are NOT PROVED:", *[it for it in said.splitlines() if not QUIET.match(it)][-60:], sep="\n", file=sys.stderr)
             raise Failed(crate.name)
         write(f"{made}.proved", key)
-        print(f"{crate.name}: its tests are proved", file=sys.stderr, flush=True)
+        print(f"note: the tests of {crate.name} are proved", file=sys.stderr, flush=True)
 
 
 def prove_tests_of(crate, processors):

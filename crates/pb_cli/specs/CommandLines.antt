@@ -11,7 +11,7 @@ abbrev pub AreSeconds : Option ℕ → Type 0
 AreSeconds None = Unit {0}
 AreSeconds (Some seconds) = (1 ≤ seconds) × (seconds ≤ 1000000000)
 
--- what is left in sockets' ports is sent for 0 to 60,000 milliseconds
+-- ports have 0 to 60,000 milliseconds to write their remaining frames
 abbrev pub IsLinger : ℕ → Type 0
 IsLinger linger = linger ≤ 60000
 
@@ -19,7 +19,7 @@ IsLinger linger = linger ≤ 60000
 abbrev pub AreTicks : ℕ → Type 0
 AreTicks ticks = ticks ≤ 100000
 
--- it is waited for 1 to 1,000,000 ticks
+-- each bridge ticks 1 to 1,000,000 times at most
 abbrev pub AreWaitedTicks : ℕ → Type 0
 AreWaitedTicks ticks = (1 ≤ ticks) × (ticks ≤ 1000000)
 
@@ -37,7 +37,7 @@ IsAsked line ring star options =
     ⊎ ((bridges : ℕ) × (line ≡ None) × (ring ≡ Some bridges) × (star ≡ None) × (options ≡ Ring bridges))
     ⊎ ((bridges : ℕ) × (line ≡ None) × (ring ≡ None) × (star ≡ Some bridges) × (options ≡ Star bridges))
 
--- a flat run has 2 to 16 ports
+-- the numbers of a command line are in their ranges
 abbrev pub HasValidArguments : CommandLine → Type 0
 HasValidArguments (Flat ports) = (2 ≤ ports) × (ports ≤ 16)
 HasValidArguments (Check report) = Unit {0}
@@ -51,7 +51,7 @@ HasValidArguments (Survive options) = AreWaitedTicks options.ticks
 HasValidArguments (Draw options) = AreTicks options.ticks
 HasValidArguments (Control control) = Unit {0}
 
--- the command line of a command over the plan file at a path, whose arguments are valid too
+-- the command line of a command over the plan file at a path, with numbers in their ranges
 abbrev pub IsPlanCommandLine : List ℕ → List ℕ → CommandLine → Type 0
 IsPlanCommandLine command path (Check report) = (command ≡ codes "check") × (string_bytes report.path ≡ path)
 IsPlanCommandLine command path (Step report) = (command ≡ codes "step") × (string_bytes report.path ≡ path)

@@ -1,4 +1,4 @@
-//! Arguments that several commands have.
+//! Arguments of several commands.
 
 ghost use Rattle.std.specs.Prelude.{◌≡◌, ◌↔◌, codes};
 
@@ -6,18 +6,15 @@ use crate::table::{Argument, Takes};
 use clap::ArgMatches;
 use std::alloc::{AllocError, Global};
 
-/// What `--down` does.
-const DOWN: &str =
-    "Sets a port to another bridge down before, named by its bridge and its number there; may stand several times, for \
-    both ends of a link";
+/// The help of `--down`.
+const DOWN: &str = "Disable port PORT of BRIDGE first; repeat it to disable both ends of a link";
 
-/// What `--format` does where a report may be a document.
-const DOCUMENT: &str =
-    "Prints the report as text, or as one json document for programs; without it text";
+/// The help of `--format` for text and JSON.
+const DOCUMENT: &str = "Print the report as text or as one JSON document [default: text]";
 
-/// What `--format` does where counts may be a table, too.
+/// The help of `--format` for text, JSON and CSV.
 const TABLE: &str =
-    "Prints the report as text, as one json document for programs, or its counts as a csv table; without it text";
+    "Print the report as text, as one JSON document, or its table as CSV [default: text]";
 
 /// The form in which a report is printed.
 #[derive(Clone, Copy, PartialEq, Eq, Debug)]
@@ -26,20 +23,20 @@ pub enum ReportFormat {
     Text,
     /// One JSON document.
     Json,
-    /// The counts as a table of comma-separated values.
+    /// A table of comma-separated values.
     Csv,
 }
 
-/// The plan file.
+/// The argument for the path of the plan file.
 pub(crate) const PLAN_FILE: Argument = Argument {
     name: "FILE",
     value: "",
-    help: "The plan file",
+    help: "Path of the plan file",
     takes: Takes::Place,
     excludes: &[],
 };
 
-/// The ports that go down before.
+/// The argument for ports that are disabled first.
 pub(crate) const DOWNS: Argument = Argument {
     name: "down",
     value: "BRIDGE:PORT",
@@ -48,7 +45,7 @@ pub(crate) const DOWNS: Argument = Argument {
     excludes: &[],
 };
 
-/// The form of a report, which may be a document.
+/// The argument for the form of a report: text or JSON.
 pub(crate) const AS_DOCUMENT: Argument = Argument {
     name: "format",
     value: "FORM",
@@ -57,7 +54,7 @@ pub(crate) const AS_DOCUMENT: Argument = Argument {
     excludes: &[],
 };
 
-/// The form of a report, which may be a document, or a table of its counts.
+/// The argument for the form of a report: text, JSON or CSV.
 pub(crate) const AS_TABLE: Argument = Argument {
     name: "format",
     value: "FORM",
@@ -66,7 +63,7 @@ pub(crate) const AS_TABLE: Argument = Argument {
     excludes: &[],
 };
 
-/// The form of this name. Without a name, and for any other, it is text.
+/// Returns the form of a name: text for any name but `json` and `csv`.
 fn report_format_named(name: &str) -> ReportFormat
     ensures json { (result ≡ ReportFormat.Json) ↔ (name.now ≡ codes "json") }
     ensures csv { (result ≡ ReportFormat.Csv) ↔ (name.now ≡ codes "csv") }
@@ -80,7 +77,7 @@ fn report_format_named(name: &str) -> ReportFormat
     ReportFormat::Text
 }
 
-/// The form in which a report is to be printed.
+/// Returns the form in which a report is printed: text without `--format`.
 pub(crate) fn report_format_of(given: &ArgMatches<'_>) -> ReportFormat {
     match given.get_str("format") {
         Some(name) => report_format_named(name),
@@ -88,7 +85,11 @@ pub(crate) fn report_format_of(given: &ArgMatches<'_>) -> ReportFormat {
     }
 }
 
-/// The value of an argument that may be there.
+/// Returns the value of an argument, if it is present.
+///
+/// # Errors
+///
+/// `AllocError` if an allocation failed.
 pub(crate) fn text_of(
     alloc: Global,
     given: &ArgMatches<'_>,
@@ -100,7 +101,11 @@ pub(crate) fn text_of(
     }
 }
 
-/// The ports that go down before.
+/// Returns the ports that are disabled first, each as BRIDGE:PORT.
+///
+/// # Errors
+///
+/// `AllocError` if an allocation failed.
 pub(crate) fn downs_of(alloc: Global, given: &ArgMatches<'_>) -> Result<Vec<String>, AllocError> {
     let mut downs = Vec::new(alloc);
     if let Some(values) = given.get_strs("down") {

@@ -1,4 +1,4 @@
-//! The commands, and the command line that is parsed.
+//! The commands, and the parser of the command line.
 
 ghost use Rattle.std.specs.Prelude.{IfOk, IfSome};
 ghost use Rattle.pb_cli.specs.CommandLines.{HasValidArguments, IsPlanCommandLine};
@@ -16,45 +16,45 @@ use crate::tree_options::{self, TREE, TreeOptions, tree_options};
 use clap::{ArgMatches, Command, Error};
 use std::alloc::{AllocError, Global};
 
-/// The program's version.
+/// The version of the program.
 const VERSION: &str = "0.3.0";
 
-/// What `flat` does.
+/// The help of `flat`.
 const FLAT: &str = "Run one bridge on `in PORT HEX` lines from standard input";
 
-/// What `check` does.
+/// The help of `check`.
 const CHECK: &str = "Validate a plan and report forwarding loops";
 
-/// What `step` does.
+/// The help of `step`.
 const STEP: &str = "Drive a network event by event from a script on standard input";
 
-/// What `show` does.
+/// The help of `show`.
 const SHOW: &str = "Print how reserved group addresses are handled";
 
-/// A command line: the command, and its options.
+/// A parsed command line: the command with its options.
 #[derive(PartialEq, Eq, Debug, Drop)]
 pub enum CommandLine {
-    /// One bridge with so many ports, driven by the lines of standard input.
+    /// `flat`: one bridge with so many ports, driven by the lines of standard input.
     Flat(u8),
-    /// Telling whether the file at this path is a plan.
+    /// `check`: the validation of a plan file.
     Check(ReportOptions),
-    /// Driving the network of the plan file at this path by the lines of standard input.
+    /// `step`: the network of a plan file, driven by the script on standard input.
     Step(ReportOptions),
-    /// Running the network of a plan file.
+    /// `run`: the network of a plan file in threads.
     Run(RunOptions),
-    /// Printing the trees of the network of a plan file.
+    /// `tree`: the spanning trees of the network of a plan file.
     Tree(TreeOptions),
-    /// Printing where frames go in the network of a plan file.
+    /// `trace`: frames hop by hop through the network of a plan file.
     Trace(TraceOptions),
-    /// Telling what becomes of frames for the reserved addresses.
+    /// `show`: how frames for reserved group addresses are handled.
     Show,
-    /// Printing a plan file to begin with.
+    /// `init`: a starter plan.
     Init(InitOptions),
-    /// Looking at the network of a plan file under failures.
+    /// `survive`: the network of a plan file under failures.
     Survive(SurviveOptions),
-    /// Drawing the network of a plan file.
+    /// `draw`: a picture of the network of a plan file.
     Draw(DrawOptions),
-    /// Sending commands to a running network.
+    /// `control`: commands for a running network.
     Control(ControlOptions),
 }
 
@@ -62,7 +62,7 @@ pub enum CommandLine {
 const PORTS: Argument = Argument {
     name: "PORTS",
     value: "",
-    help: "How many ports the bridge has, 2 to 16",
+    help: "Number of ports of the bridge [range: 2-16]",
     takes: Takes::SmallPlace(2, 16),
     excludes: &[],
 };
@@ -126,7 +126,11 @@ const COMMANDS: &[CommandRow] = &[
     },
 ];
 
-/// The program's commands and their arguments.
+/// Returns the parser of the program, with all commands.
+///
+/// # Errors
+///
+/// `Error` of kind `OutOfMemory` if an allocation failed.
 fn commands<'a>(alloc: Global) -> Result<Command<'a>, Error> {
     let program = Command::new(alloc, "pbnet")
         .version(VERSION)
@@ -135,8 +139,12 @@ fn commands<'a>(alloc: Global) -> Result<Command<'a>, Error> {
     with_commands(alloc, program, COMMANDS)
 }
 
-/// Returns the command line of a command that reads the plan file at a path. None if it is no such command, or if a
-/// required argument of `trace` is missing.
+/// Returns the command line of a command that reads the plan file at a path. None if the command reads no plan file, or
+/// if a required argument of `trace` is missing.
+///
+/// # Errors
+///
+/// `AllocError` if an allocation failed.
 fn plan_command_line(
     alloc: Global,
     command: &str,
@@ -171,14 +179,15 @@ fn plan_command_line(
     Ok(None)
 }
 
-/// Parses the arguments of the program, of which the first is its own name.
+/// Parses the arguments of the program. The first one is the name of the program.
 ///
-/// The numbers among them are in the ranges of the help. `None` would mean arguments that were parsed and name no
-/// command. It is never returned, since a required argument has a value; no contract says so.
+/// The numbers among them are in the ranges of the help. `None` would mean that the arguments are valid and name no
+/// command. It is never returned, because a required argument has a value; no contract says so.
 ///
 /// # Errors
 ///
-/// A message for the user: why the arguments are refused, or the help or the version that they ask for.
+/// A message for the user: why the arguments are refused, or the help or the version if they ask for it. Its kind is
+/// `OutOfMemory` if an allocation failed.
 pub fn command_line_of(alloc: Global, arguments: &[String]) -> Result<Option<CommandLine>, Error>
     ensures { IfOk result (λ o. IfSome o HasValidArguments) }
 {

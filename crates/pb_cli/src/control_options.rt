@@ -6,16 +6,16 @@ use crate::table::{Argument, Takes};
 use clap::ArgMatches;
 use std::alloc::{AllocError, Global};
 
-/// What `control` does.
+/// The help of `control`.
 pub(crate) const CONTROL: &str = "Send commands to a running network by its control socket";
 
-/// What PATH is.
-const PATH: &str = "Control socket of the run, as in `run --control PATH`";
+/// The help of PATH.
+const PATH: &str = "Path of the run's control socket, as in `run --control PATH`";
 
-/// What COMMAND is.
+/// The help of COMMAND.
 const COMMAND: &str =
-    "stop, counts, tree, down BRIDGE PORT or up BRIDGE PORT; -- separates several, - reads them from standard input, \
-    one a line";
+    "stop, counts, tree, down BRIDGE PORT or up BRIDGE PORT; `--` separates commands, and `-` alone reads one per line \
+    from standard input";
 
 /// The arguments of `control`.
 pub(crate) const ARGUMENTS: &[Argument] = &[
@@ -38,13 +38,17 @@ pub(crate) const ARGUMENTS: &[Argument] = &[
 /// The options of `control`: commands for a control socket.
 #[derive(PartialEq, Eq, Debug, Drop)]
 pub struct ControlOptions {
-    /// The socket's path.
+    /// The path of the socket.
     pub path: String,
-    /// The arguments that make up the commands, `--` among them.
+    /// The arguments of all commands, with `--` between two commands.
     pub arguments: Vec<String>,
 }
 
-/// The arguments from the place of COMMAND on.
+/// Returns the arguments from COMMAND on.
+///
+/// # Errors
+///
+/// `AllocError` if an allocation failed.
 fn arguments_of(alloc: Global, given: &ArgMatches<'_>) -> Result<Vec<String>, AllocError> {
     let mut arguments = Vec::new(alloc);
     if let Some(values) = given.get_strs("COMMAND") {
@@ -56,6 +60,10 @@ fn arguments_of(alloc: Global, given: &ArgMatches<'_>) -> Result<Vec<String>, Al
 }
 
 /// Returns the options of `control` for the control socket at a path.
+///
+/// # Errors
+///
+/// `AllocError` if an allocation failed.
 pub(crate) fn control_options(
     alloc: Global,
     path: &str,

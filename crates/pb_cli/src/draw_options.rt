@@ -9,18 +9,17 @@ use crate::tree_options::{TICK_LIMIT, ticks_of};
 use clap::ArgMatches;
 use std::alloc::{AllocError, Global};
 
-/// What `draw` does.
+/// The help of `draw`.
 pub(crate) const DRAW: &str = "Draw the network as SVG or Graphviz";
 
-/// What `--service` does.
-const SERVICE: &str = "Lets the service of this name stand out, and its tree";
+/// The help of `--service`.
+const SERVICE: &str = "Highlight this service and its tree";
 
-/// What `--output` does.
-const OUTPUT: &str = "Writes the picture to the file at PATH in place of standard output";
+/// The help of `--output`.
+const OUTPUT: &str = "Write the picture to this file [default: standard output]";
 
-/// What `--format` does.
-const FORMAT: &str =
-    "Writes svg, a picture that stands alone, or dot, a graph for Graphviz; without it svg";
+/// The help of `--format`.
+const FORMAT: &str = "Draw a standalone SVG picture or a graph for Graphviz [default: svg]";
 
 /// The arguments of `draw`.
 pub(crate) const ARGUMENTS: &[Argument] = &[
@@ -53,7 +52,7 @@ pub(crate) const ARGUMENTS: &[Argument] = &[
 /// The form in which a picture is written.
 #[derive(Clone, Copy, PartialEq, Eq, Debug)]
 pub enum PictureFormat {
-    /// An SVG picture that stands alone.
+    /// A standalone SVG picture.
     Svg,
     /// A graph for the programs of Graphviz.
     Dot,
@@ -64,19 +63,19 @@ pub enum PictureFormat {
 pub struct DrawOptions {
     /// The plan file's path.
     pub path: String,
-    /// The name of the service that is to stand out, if one is.
+    /// The name of the service to highlight, if any.
     pub service: Option<String>,
-    /// The ports that go down before, each as BRIDGE:PORT.
+    /// The ports that are disabled first, each as BRIDGE:PORT.
     pub downs: Vec<String>,
     /// The form in which the picture is written.
     pub format: PictureFormat,
-    /// How often each bridge ticks at most, 0 to 100,000.
+    /// The most ticks of each bridge, 0 to 100,000.
     pub ticks: u32,
-    /// Where the picture is written. None: on standard output.
+    /// The path of the file for the picture. None: standard output.
     pub output: Option<String>,
 }
 
-/// The form in which the picture is written.
+/// Returns the form in which the picture is written: SVG without `--format`.
 fn format_of(given: &ArgMatches<'_>) -> PictureFormat {
     match given.get_str("format") {
         Some("dot") => PictureFormat::Dot,
@@ -85,6 +84,10 @@ fn format_of(given: &ArgMatches<'_>) -> PictureFormat {
 }
 
 /// Returns the options of `draw` for the plan file at a path.
+///
+/// # Errors
+///
+/// `AllocError` if an allocation failed.
 pub(crate) fn draw_options(
     alloc: Global,
     path: &str,

@@ -6,17 +6,17 @@ ghost use Rattle.pb_cli.specs.CommandLines.{IsNetwork, IsAsked};
 use crate::table::{Argument, Takes};
 use clap::ArgMatches;
 
-/// What `init` does.
+/// The help of `init`.
 pub(crate) const INIT: &str = "Print a starter plan";
 
-/// What `--line` does.
-const LINE: &str = "A line of N bridges, 1 to 32";
+/// The help of `--line`.
+const LINE: &str = "Connect N bridges in a line [default: 2] [range: 1-32]";
 
-/// What `--ring` does.
-const RING: &str = "A ring of N bridges, 3 to 32, which find a spanning tree before frames enter";
+/// The help of `--ring`.
+const RING: &str = "Connect N bridges in a ring, with RSTP [range: 3-32]";
 
-/// What `--star` does.
-const STAR: &str = "A star of N bridges, 2 to 17: the first is joined to each of the others";
+/// The help of `--star`.
+const STAR: &str = "Connect N bridges in a star, with the first as its centre [range: 2-17]";
 
 /// The arguments of `init`.
 pub(crate) const ARGUMENTS: &[Argument] = &[
@@ -43,18 +43,19 @@ pub(crate) const ARGUMENTS: &[Argument] = &[
     },
 ];
 
-/// The options of `init`: the network of which a plan is printed.
+/// The options of `init`: the network of the starter plan.
 #[derive(Clone, Copy, PartialEq, Eq, Debug)]
 pub enum InitOptions {
-    /// A line of so many bridges, 1 to 32.
+    /// A line of 1 to 32 bridges.
     Line(u8),
-    /// A ring of so many bridges, 3 to 32.
+    /// A ring of 3 to 32 bridges.
     Ring(u8),
-    /// A star of so many bridges, its centre among them, 2 to 17.
+    /// A star of 2 to 17 bridges, its centre among them.
     Star(u8),
 }
 
-/// Returns the network of these arguments, of which at most one is present. None if its number is out of range.
+/// Returns the network of these arguments: a line of two bridges without any. None if a number is out of range or two
+/// arguments are present.
 fn network_of(line: Option<u8>, ring: Option<u8>, star: Option<u8>) -> Option<InitOptions>
     ensures { IfSome result (λ options. IsNetwork options × IsAsked line ring star options) }
 {
@@ -73,7 +74,7 @@ fn network_of(line: Option<u8>, ring: Option<u8>, star: Option<u8>) -> Option<In
     }
 }
 
-/// Returns the options of `init`. None is never returned, since a parsed argument is in its range and excludes the
+/// Returns the options of `init`. None is never returned, because a parsed argument is in its range and excludes the
 /// others; no contract says so.
 pub(crate) fn init_options(given: &ArgMatches<'_>) -> Option<InitOptions>
     ensures { IfSome result IsNetwork }

@@ -1,4 +1,5 @@
-//! The program's command line: its commands, their arguments, and what a command line asks for.
+//! The command line: commands, options and their help, over the parser of clap. Begin with [`command_line_of`], which
+//! returns the parsed [`CommandLine`]. Each command has a file with its options and the texts of its help.
 #![tactic(auto)]
 
 mod arguments;

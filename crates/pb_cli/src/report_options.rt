@@ -9,13 +9,17 @@ use std::alloc::{AllocError, Global};
 /// The options of `check` and `step`: a report over a plan file.
 #[derive(PartialEq, Eq, Debug, Drop)]
 pub struct ReportOptions {
-    /// The plan file's path.
+    /// The path of the plan file.
     pub path: String,
     /// The form in which the report is printed.
     pub format: ReportFormat,
 }
 
 /// Returns the options of `check` or `step` for the plan file at a path.
+///
+/// # Errors
+///
+/// `AllocError` if an allocation failed.
 pub(crate) fn report_options(
     alloc: Global,
     path: &str,

@@ -8,45 +8,39 @@ use crate::table::{Argument, Takes};
 use clap::ArgMatches;
 use std::alloc::{AllocError, Global};
 
-/// The most seconds after which a run may be stopped.
+/// The largest value of `--seconds`.
 const MOST: u32 = 1_000_000_000;
 
-/// For how many milliseconds socket ports still send their remaining frames at the end, without `--linger`.
+/// The milliseconds that ports have for their remaining frames without `--linger`.
 const LINGER: u32 = 100;
 
-/// The most that `--linger` may be.
+/// The largest value of `--linger`.
 const MOST_LINGER: u32 = 60_000;
 
-/// What `run` does.
+/// The help of `run`.
 pub(crate) const RUN: &str = "Run a network in threads between captures and sockets";
 
-/// What `--seconds` does.
+/// The help of `--seconds`.
 const SECONDS: &str =
-    "Stops the run after N seconds, 1 to 1000000000, and reports; without it a run goes on until nothing is left to do \
-    or a limit of the plan is reached";
+    "Stop after N seconds and print the report [default: no limit] [range: 1-1000000000]";
 
-/// What `--progress` does.
-const PROGRESS: &str =
-    "Tells on standard error once a second how far the run is, on a terminal or not";
+/// The help of `--progress`.
+const PROGRESS: &str = "Report progress on standard error once a second, also without a terminal";
 
-/// What `--control` does.
-const CONTROL: &str =
-    "Makes a Unix socket at PATH, on which one peer at a time asks for counts, sets ports between bridges up and down, \
-    and stops the run";
+/// The help of `--control`.
+const CONTROL: &str = "Create a Unix socket at PATH for the commands of `pbnet control`";
 
-/// What `--settle` does.
+/// The help of `--settle`.
 const SETTLE: &str =
-    "Lets no frame enter before the bridges have settled, where they decide the states of their ports, or the clock \
-    has ticked 200 times";
+    "Keep frames out until the bridges have converged (RSTP), for at most 200 ticks";
 
-/// What `--linger` does.
+/// The help of `--linger`.
 const LINGER_HELP: &str =
-    "Sends what is left in the ports of sockets at the end for MS milliseconds at most, 0 to 60000; without it 100";
+    "Let ports write remaining frames at the end for MS milliseconds [default: 100] [range: 0-60000]";
 
-/// What `--strict` does.
+/// The help of `--strict`.
 const STRICT: &str =
-    "Exits with status 4 where a frame was lost for want of room, memory or a device, or the run did not drain, or \
-    bridges have not settled";
+    "Exit with status 4 if something was lost, or the run did not drain or converge";
 
 /// The arguments of `run`.
 pub(crate) const ARGUMENTS: &[Argument] = &[
@@ -99,25 +93,25 @@ pub(crate) const ARGUMENTS: &[Argument] = &[
 /// The options of `run`: a run of the network of a plan file.
 #[derive(PartialEq, Eq, Debug, Drop)]
 pub struct RunOptions {
-    /// The plan file's path.
+    /// The path of the plan file.
     pub path: String,
-    /// After how many seconds the run is to be stopped, 1 to 1,000,000,000. None: it isn't.
+    /// The seconds after which the run is stopped, 1 to 1,000,000,000. None: no limit.
     pub seconds: Option<u32>,
-    /// How far the run is is told once a second, whether standard error is a terminal or not.
+    /// Whether progress is reported once a second, also if standard error is no terminal.
     pub progress: bool,
-    /// Where the control socket is made. None: there is none.
+    /// The path of the control socket. None: no control socket.
     pub control: Option<String>,
-    /// A run that lost a frame has an exit status of its own.
+    /// Whether a run with losses has an exit status of its own.
     pub strict: bool,
-    /// No frame enters before the bridges have settled.
+    /// Whether frames are kept out until the bridges have converged.
     pub settles: bool,
-    /// For how many milliseconds what is left in sockets' ports at the end is still sent, 0 to 60,000.
+    /// The milliseconds that all ports have at the end to write their remaining frames, 0 to 60,000.
     pub linger: u32,
     /// The form in which the report is printed.
     pub format: ReportFormat,
 }
 
-/// After how many seconds a run is to be stopped.
+/// Returns the seconds after which a run is stopped.
 fn seconds_of(given: &ArgMatches<'_>) -> Option<u32>
     ensures { AreSeconds result }
 {
@@ -129,7 +123,7 @@ fn seconds_of(given: &ArgMatches<'_>) -> Option<u32>
     }
 }
 
-/// For how many milliseconds what is left in sockets' ports is still sent.
+/// Returns the milliseconds that ports have for their remaining frames.
 fn linger_of(given: &ArgMatches<'_>) -> u32
     ensures { IsLinger result }
 {
@@ -140,6 +134,10 @@ fn linger_of(given: &ArgMatches<'_>) -> u32
 }
 
 /// Returns the options of `run` for the plan file at a path.
+///
+/// # Errors
+///
+/// `AllocError` if an allocation failed.
 pub(crate) fn run_options(
     alloc: Global,
     path: &str,

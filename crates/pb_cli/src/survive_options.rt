@@ -8,29 +8,29 @@ use crate::table::{Argument, Takes};
 use clap::ArgMatches;
 use std::alloc::{AllocError, Global};
 
-/// For how many ticks it is waited until the bridges settle, where nothing else is asked for.
+/// The most ticks of each bridge without `--ticks`.
 const USUAL: u32 = 200;
 
-/// The most ticks that may be asked for.
+/// The largest value of `--ticks`.
 const MOST: u32 = 1_000_000;
 
-/// What `survive` does.
+/// The help of `survive`.
 pub(crate) const SURVIVE: &str = "Fail each link in turn and report disconnected sites";
 
-/// What `--pairs` does.
-const PAIRS: &str = "Takes each two links down too";
+/// The help of `--pairs`.
+const PAIRS: &str = "Also fail each pair of links";
 
-/// What `--bridges` does.
-const BRIDGES: &str = "Takes each bridge down too, with all links at it";
+/// The help of `--bridges`.
+const BRIDGES: &str = "Also fail each bridge, with all of its links";
 
-/// What `--service` does.
-const SERVICE: &str = "Looks at the service of this name alone";
+/// The help of `--service`.
+const SERVICE: &str = "Analyse only this service";
 
-/// What `--from` does.
-const FROM: &str = "Tells only what cuts the customer port of this name off, and from which others";
+/// The help of `--from`.
+const FROM: &str = "Report only failures that disconnect this customer port from others";
 
-/// What `--ticks` does.
-const TICKS: &str = "Waits N ticks at most until the bridges settle, 1 to 1000000; without it 200";
+/// The help of `--ticks`.
+const TICKS: &str = "Wait at most N ticks for convergence [default: 200] [range: 1-1000000]";
 
 /// The arguments of `survive`.
 pub(crate) const ARGUMENTS: &[Argument] = &[
@@ -73,35 +73,39 @@ pub(crate) const ARGUMENTS: &[Argument] = &[
     PLAN_FILE,
 ];
 
-/// Which services are looked at.
+/// The services that are analysed.
 #[derive(PartialEq, Eq, Debug, Drop)]
 pub enum SurviveScope {
     /// All of them.
     All,
-    /// The one of this name.
+    /// The service of this name.
     Service(String),
-    /// The one of the customer port of this name, from that port.
+    /// The service of the customer port of this name, as seen from that port.
     From(String),
 }
 
-/// The options of `survive`: the failures, and the services that are checked.
+/// The options of `survive`: the failures, and the services that are analysed.
 #[derive(PartialEq, Eq, Debug, Drop)]
 pub struct SurviveOptions {
-    /// The plan file's path.
+    /// The path of the plan file.
     pub path: String,
-    /// Whether each two links are taken down too.
+    /// Whether each pair of links fails too.
     pub pairs: bool,
-    /// Whether each bridge is taken down too.
+    /// Whether each bridge fails too.
     pub bridges: bool,
-    /// Which services are looked at.
+    /// The services that are analysed.
     pub scope: SurviveScope,
-    /// For how many ticks at most it is waited until the bridges settle, 1 to 1,000,000.
+    /// The most ticks of each bridge until convergence, 1 to 1,000,000.
     pub ticks: u32,
-    /// The form in which it is printed what comes of the failures.
+    /// The form in which the report is printed.
     pub format: ReportFormat,
 }
 
-/// Which services are looked at.
+/// Returns the services that are analysed.
+///
+/// # Errors
+///
+/// `AllocError` if an allocation failed.
 fn scope_of(alloc: Global, given: &ArgMatches<'_>) -> Result<SurviveScope, AllocError> {
     if let Some(name) = text_of(alloc, given, "service")? {
         return Ok(SurviveScope::Service(name));
@@ -112,7 +116,7 @@ fn scope_of(alloc: Global, given: &ArgMatches<'_>) -> Result<SurviveScope, Alloc
     Ok(SurviveScope::All)
 }
 
-/// For how many ticks it is waited.
+/// Returns the most ticks of each bridge.
 fn ticks_of(given: &ArgMatches<'_>) -> u32
     ensures { AreWaitedTicks result }
 {
@@ -123,6 +127,10 @@ fn ticks_of(given: &ArgMatches<'_>) -> u32
 }
 
 /// Returns the options of `survive` for the plan file at a path.
+///
+/// # Errors
+///
+/// `AllocError` if an allocation failed.
 pub(crate) fn survive_options(
     alloc: Global,
     path: &str,

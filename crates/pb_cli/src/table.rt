@@ -1,70 +1,70 @@
-//! Commands and their arguments as tables, and the parser that is made of them.
+//! Tables of commands and their arguments, and the parser that they make.
 
 use clap::builder::ValueParser;
 use clap::{Arg, ArgAction, Command, Error};
 use std::alloc::Global;
 
-/// What stands behind an argument, or at its place.
+/// The value that an argument takes.
 #[derive(Clone, Copy)]
 pub(crate) enum Takes {
-    /// Nothing: the argument is there or not.
+    /// No value: a flag.
     Nothing,
     /// A text.
     Text,
-    /// A text. This letter may stand for the argument's name.
+    /// A text. This letter is the short name of the argument.
     TextBy(char),
-    /// A text, each time that the argument stands.
+    /// A text. The argument may be repeated.
     Texts,
-    /// The name of a port and the digits of a frame, each time that the argument stands.
+    /// The name of a port and the digits of a frame. The argument may be repeated.
     Frames,
     /// One of these names.
     Name(&'static [&'static str]),
-    /// A number of at least the first and at most the second, below 2^32.
+    /// A number from the first to the second, below 2^32.
     Number(i64, i64),
-    /// A number of at least the first and at most the second, below 256.
+    /// A number from the first to the second, below 256.
     Small(i64, i64),
-    /// The argument has no name on the command line: it is a text at its place.
+    /// A text. The argument is positional and required.
     Place,
-    /// It is a number at its place, of at least the first and at most the second, below 256.
+    /// A number from the first to the second, below 256. The argument is positional and required.
     SmallPlace(i64, i64),
-    /// It is all arguments from its place on, one or more, whatever they begin with.
+    /// All arguments from its place on, one or more, also those that begin with a hyphen.
     Rest,
 }
 
 /// An argument of a command.
 #[derive(Clone, Copy)]
 pub(crate) struct Argument {
-    /// Its name: `--NAME` on the command line, or what the help calls it where it stands at its place.
+    /// The name of `--NAME`, or the name of a positional argument in the help.
     pub name: &'static str,
-    /// What the help calls what stands behind it.
+    /// The name of its value in the help.
     pub value: &'static str,
-    /// What it does.
+    /// The text of the help, with default and range in brackets. The parser appends the possible values of a name.
     pub help: &'static str,
-    /// What stands behind it.
+    /// The value that it takes.
     pub takes: Takes,
-    /// The arguments that can't stand beside it.
+    /// The arguments that it excludes.
     pub excludes: &'static [&'static str],
 }
 
 /// A command.
 #[derive(Clone, Copy)]
 pub(crate) struct CommandRow {
-    /// Its name on the command line.
+    /// The name on the command line.
     pub name: &'static str,
-    /// What it does.
+    /// The line of the help: imperative, at most 70 characters.
     pub about: &'static str,
-    /// Its arguments, in the order of the help.
+    /// The arguments, in the order of the help.
     pub arguments: &'static [Argument],
 }
 
-/// An argument with a name, behind which something stands.
+/// Gives an argument a long name and a value.
 fn named<'a>(arg: Arg<'a>, argument: Argument) -> Arg<'a> {
     arg.long(argument.name)
         .value_name(argument.value)
         .action(ArgAction::Set)
 }
 
-/// An argument with a name, behind which a port and a frame stand.
+/// Gives an argument a long name and two values, a port and a frame, and lets it be repeated.
 fn framed<'a>(arg: Arg<'a>, argument: Argument) -> Arg<'a> {
     arg.long(argument.name)
         .value_names(&["PORT", "HEX"])
@@ -72,12 +72,12 @@ fn framed<'a>(arg: Arg<'a>, argument: Argument) -> Arg<'a> {
         .action(ArgAction::Append)
 }
 
-/// An argument at its place, which is required.
+/// Makes an argument positional and required.
 fn placed<'a>(arg: Arg<'a>) -> Arg<'a> {
     arg.required(true).action(ArgAction::Set)
 }
 
-/// All arguments from its place on, one or more, whatever they begin with.
+/// Makes an argument take all arguments from its place on, one or more, also those that begin with a hyphen.
 fn remaining<'a>(arg: Arg<'a>) -> Arg<'a> {
     arg.required(true)
         .num_args(1..)
@@ -86,7 +86,7 @@ fn remaining<'a>(arg: Arg<'a>) -> Arg<'a> {
         .action(ArgAction::Append)
 }
 
-/// An argument by what stands behind it.
+/// Sets name, values and parser of an argument by the value that it takes.
 fn taking<'a>(arg: Arg<'a>, argument: Argument) -> Arg<'a> {
     match argument.takes {
         Takes::Nothing => arg.long(argument.name).action(ArgAction::SetTrue),
@@ -110,12 +110,20 @@ fn taking<'a>(arg: Arg<'a>, argument: Argument) -> Arg<'a> {
 }
 
 /// Returns the parser's argument for a row of a table.
+///
+/// # Errors
+///
+/// `Error` of kind `OutOfMemory` if an allocation failed.
 fn arg_of<'a>(alloc: Global, argument: Argument) -> Result<Arg<'a>, Error> {
     let arg = taking(Arg::new(alloc, argument.name).help(argument.help), argument);
     Ok(arg.conflicts_with_all(argument.excludes)?)
 }
 
 /// Returns the parser's command for a row of a table.
+///
+/// # Errors
+///
+/// `Error` of kind `OutOfMemory` if an allocation failed.
 fn command_of<'a>(alloc: Global, row: CommandRow) -> Result<Command<'a>, Error> {
     let mut command = Command::new(alloc, row.name).about(row.about);
     for argument in row.arguments {
@@ -124,7 +132,11 @@ fn command_of<'a>(alloc: Global, row: CommandRow) -> Result<Command<'a>, Error> 
     Ok(command)
 }
 
-/// A program with these commands.
+/// Adds these commands to a program.
+///
+/// # Errors
+///
+/// `Error` of kind `OutOfMemory` if an allocation failed.
 pub(crate) fn with_commands<'a>(
     alloc: Global,
     program: Command<'a>,

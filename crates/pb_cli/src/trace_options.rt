@@ -7,21 +7,20 @@ use crate::table::{Argument, Takes};
 use clap::ArgMatches;
 use std::alloc::{AllocError, Global};
 
-/// What `trace` does.
+/// The help of `trace`.
 pub(crate) const TRACE: &str = "Trace a frame hop by hop";
 
-/// What PORT is.
-const PORT: &str = "The customer port where the frame comes in";
+/// The help of PORT.
+const PORT: &str = "Customer port at which the frame enters";
 
-/// What HEX is.
-const HEX: &str = "Its octets from the destination address on, as pairs of hexadecimal digits";
+/// The help of HEX.
+const HEX: &str = "Frame from the destination address on, as pairs of hexadecimal digits";
 
-/// What `--then` does.
-const THEN: &str = "Lets a further frame come in behind it; may stand several times";
+/// The help of `--then`.
+const THEN: &str = "Inject another frame once the one before is traced; may be repeated";
 
-/// What `--settle` does.
-const SETTLE: &str =
-    "Lets the bridges settle before, where they decide the states of their ports, for 200 ticks at most";
+/// The help of `--settle`.
+const SETTLE: &str = "Let the bridges converge first (RSTP), for at most 200 ticks";
 
 /// The arguments of `trace`.
 pub(crate) const ARGUMENTS: &[Argument] = &[
@@ -57,29 +56,33 @@ pub(crate) const ARGUMENTS: &[Argument] = &[
     },
 ];
 
-/// A frame that comes in.
+/// A frame to inject.
 #[derive(PartialEq, Eq, Debug, Drop)]
 pub struct TraceEntry {
-    /// The name of the customer port where it comes in.
+    /// The name of the customer port at which it enters.
     pub port: String,
-    /// Its octets, as pairs of hexadecimal digits.
+    /// Its octets as pairs of hexadecimal digits.
     pub hex: String,
 }
 
 /// The options of `trace`: the frames that enter the network of a plan file.
 #[derive(PartialEq, Eq, Debug, Drop)]
 pub struct TraceOptions {
-    /// The plan file's path.
+    /// The path of the plan file.
     pub path: String,
     /// The frames, in order.
     pub entries: Vec<TraceEntry>,
-    /// Whether the bridges settle before.
+    /// Whether the bridges converge first.
     pub settles: bool,
-    /// The form in which it is printed where they go, text or JSON.
+    /// The form in which the trace is printed, text or JSON.
     pub format: ReportFormat,
 }
 
-/// Puts a frame behind others.
+/// Appends a frame.
+///
+/// # Errors
+///
+/// `AllocError` if an allocation failed. The frames are unchanged then.
 fn push_entry(
     alloc: Global,
     entries: &mut Vec<TraceEntry>,
@@ -92,7 +95,11 @@ fn push_entry(
     Ok(())
 }
 
-/// Puts the further frames behind the first one: each is a port and its digits.
+/// Appends the frames of `--then`: each is two values, a port and its digits.
+///
+/// # Errors
+///
+/// `AllocError` if an allocation failed.
 fn push_further(
     alloc: Global,
     entries: &mut Vec<TraceEntry>,
@@ -113,7 +120,11 @@ fn push_further(
     Ok(())
 }
 
-/// The frames that come in.
+/// Returns all frames to inject, in order.
+///
+/// # Errors
+///
+/// `AllocError` if an allocation failed.
 fn entries_of(
     alloc: Global,
     port: &str,
@@ -126,8 +137,12 @@ fn entries_of(
     Ok(entries)
 }
 
-/// Returns the options of `trace` for the plan file at a path. None is never returned, since a required argument has a
-/// value; no contract says so.
+/// Returns the options of `trace` for the plan file at a path. None is never returned, because a required argument has
+/// a value; no contract says so.
+///
+/// # Errors
+///
+/// `AllocError` if an allocation failed.
 pub(crate) fn trace_options(
     alloc: Global,
     path: &str,

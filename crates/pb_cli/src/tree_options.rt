@@ -8,19 +8,19 @@ use crate::table::{Argument, Takes};
 use clap::ArgMatches;
 use std::alloc::{AllocError, Global};
 
-/// The most ticks of each bridge, without `--ticks`.
+/// The most ticks of each bridge without `--ticks`.
 const TICKS: u32 = 200;
 
-/// The most that `--ticks` may be.
+/// The largest value of `--ticks`.
 const MOST: u32 = 100_000;
 
-/// What `tree` does.
+/// The help of `tree`.
 pub(crate) const TREE: &str = "Print the spanning tree after convergence";
 
-/// What `--ticks` does.
-const TICKS_HELP: &str = "Lets each bridge tick N times at most, 0 to 100000; without it 200";
+/// The help of `--ticks`.
+const TICKS_HELP: &str = "Wait at most N ticks for convergence [default: 200] [range: 0-100000]";
 
-/// How often each bridge ticks at most.
+/// The argument for the most ticks of each bridge.
 pub(crate) const TICK_LIMIT: Argument = Argument {
     name: "ticks",
     value: "N",
@@ -35,17 +35,17 @@ pub(crate) const ARGUMENTS: &[Argument] = &[DOWNS, AS_DOCUMENT, TICK_LIMIT, PLAN
 /// The options of `tree`: the spanning trees of the network of a plan file.
 #[derive(PartialEq, Eq, Debug, Drop)]
 pub struct TreeOptions {
-    /// The plan file's path.
+    /// The path of the plan file.
     pub path: String,
-    /// The ports that go down before, each as BRIDGE:PORT.
+    /// The ports that are disabled first, each as BRIDGE:PORT.
     pub downs: Vec<String>,
-    /// How often each bridge ticks at most, 0 to 100,000.
+    /// The most ticks of each bridge, 0 to 100,000.
     pub ticks: u32,
     /// The form in which the trees are printed, text or JSON.
     pub format: ReportFormat,
 }
 
-/// How often each bridge ticks at most.
+/// Returns the most ticks of each bridge.
 pub(crate) fn ticks_of(given: &ArgMatches<'_>) -> u32
     ensures { AreTicks result }
 {
@@ -56,6 +56,10 @@ pub(crate) fn ticks_of(given: &ArgMatches<'_>) -> u32
 }
 
 /// Returns the options of `tree` for the plan file at a path.
+///
+/// # Errors
+///
+/// `AllocError` if an allocation failed.
 pub(crate) fn tree_options(
     alloc: Global,
     path: &str,

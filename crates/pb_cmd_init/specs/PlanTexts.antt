@@ -1,4 +1,4 @@
--- The plan file to begin with.
+-- The texts of the starter plan.
 use Rattle.std.specs.Prelude.{ℕ, ◌==◌, if◌then◌else◌, List, [], ◌∷◌, ◌++◌, flat_map, codes}
 use Rattle.std.specs.Fmt.{decimal}
 use Rattle.std.specs.List.{range_with_len}
@@ -8,53 +8,58 @@ use Rattle.pb_cmd_init.specs.declared.topology.Ends.{Ends}
 use Rattle.pb_cmd_init.specs.declared.topology.Topology.{Topology}
 use Rattle.pb_cmd_init.specs.declared.topology.Topology.TheVariants.{Line, Ring, Star}
 
--- what the file is, and how to go on
+-- the head of the file: what it is, and the next commands
 abbrev pub head_text : List ℕ
 head_text =
-    codes "# A plan for pbnet. With this in a file FILE,\n"
+    codes "# A starter plan for pbnet. If this is the file FILE,\n"
     ++ codes "#\n"
-    ++ codes "#   pbnet check FILE   tells what the plan has, or which rule it breaks;\n"
-    ++ codes "#   pbnet run FILE     runs the network, and reports what entered and left;\n"
-    ++ codes "#   pbnet step FILE    drives it event by event, by lines of standard input.\n"
+    ++ codes "#   pbnet check FILE   validates the plan, and reports forwarding loops;\n"
+    ++ codes "#   pbnet run FILE     runs the network, and counts the frames that enter and leave;\n"
+    ++ codes "#   pbnet step FILE    drives the network event by event from a script on standard input.\n"
     ++ codes "#\n"
-    ++ codes "# docs/PLAN_FILE.md has every key. A # right before a key or a table may be taken away, to try it.\n"
+    ++ codes "# docs/PLAN_FILE.md describes every key. Remove a # directly before a key or a table to use it.\n"
     ++ codes "\n"
     ++ codes "[network]\n"
 
--- the network's keys: where links form a ring, the bridges decide the states of ports, by a clock
+-- the keys of a network whose links form no loop
 abbrev pub fixed_text : List ℕ
 fixed_text =
-    codes "# The links form no ring, so each port between bridges forwards from the start. With these keys\n"
-    ++ codes "# the bridges find a spanning tree (RSTP) first:\n"
+    codes "# The links form no loop: each port between bridges is forwarding from the start. With these keys\n"
+    ++ codes "# the bridges compute a spanning tree (RSTP) first:\n"
     ++ codes "#spanning = \"rstp\"\n"
     ++ codes "#tick_ms = 10\n"
     ++ codes "#hold = 200\n"
 
+-- the keys of a network whose links form a loop: RSTP with a clock
 abbrev pub rstp_text : List ℕ
 rstp_text =
-    codes "# The links form a ring. A spanning tree (RSTP) keeps a broadcast from going round for ever.\n"
+    codes "# The links form a loop. The spanning tree (RSTP) opens it: no frame circulates.\n"
     ++ codes "spanning = \"rstp\"\n"
-    ++ codes "# The clock: a tick stands for a second of the spanning tree, and takes 10 milliseconds here. A\n"
+    ++ codes "# The clock: a tick represents a second of the standard, and takes 10 milliseconds here. A\n"
     ++ codes "# large ring on a busy machine needs more.\n"
     ++ codes "tick_ms = 10\n"
-    ++ codes "# No frame enters before 200 ticks: first a tree, then traffic.\n"
+    ++ codes "# No frame enters before 200 ticks, while the bridges converge.\n"
     ++ codes "hold = 200\n"
 
+-- the keys of the network
 abbrev pub keys_text : Topology → List ℕ
 keys_text (Line n) = fixed_text
 keys_text (Ring n) = rstp_text
 keys_text (Star n) = fixed_text
 
+-- the comment on bridges and links
 abbrev pub places_text : List ℕ
 places_text =
     codes "\n"
-    ++ codes "# The bridges, each with ports 1 to 16 and an address, and the links between them.\n"
+    ++ codes "# The bridges, each with an address and the ports 1 to 16, and the links between them.\n"
 
+-- a bridge, whose address ends in its number
 abbrev pub bridge_text : ℕ → List ℕ
 bridge_text bridge =
     codes "\n[[bridge]]\nname = \"B" ++ decimal bridge
     ++ codes "\"\naddress = \"" ++ mac_text (2 ∷ 0 ∷ 0 ∷ 0 ∷ 0 ∷ bridge ∷ []) ++ codes "\"\n"
 
+-- a link between these ends
 abbrev pub ends_text : ℕ → Ends → List ℕ
 ends_text link ends =
     codes "\n[[link]]\nname = \"L" ++ decimal link
@@ -64,21 +69,22 @@ ends_text link ends =
 abbrev pub link_text : Topology → ℕ → List ℕ
 link_text topology link = ends_text link (ends_of topology link)
 
+-- the service, and the comment on customer ports
 abbrev pub service_text : List ℕ
 service_text =
     codes "\n"
-    ++ codes "# A service is a network of its own: what enters one of its customer ports leaves the others, and no\n"
-    ++ codes "# port of another service. Between bridges its frames have an S-tag with this VID, 1 to 4094.\n"
+    ++ codes "# A service connects customer ports: a frame that enters one of them can leave only the others of this\n"
+    ++ codes "# service. Between bridges its frames have an S-tag with this VID, 1 to 4094.\n"
     ++ codes "[[service]]\n"
     ++ codes "name = \"red\"\n"
     ++ codes "vid = 100\n"
     ++ codes "\n"
-    ++ codes "# The customer ports, each at a port of a bridge.\n"
+    ++ codes "# The customer ports. Each is a port of a bridge.\n"
 
--- a frame comes in at the first port
+-- the frame that enters at the first customer port
 abbrev pub broadcast_text : List ℕ
 broadcast_text =
-    codes "# The frames that come in here, in hexadecimal digits: one broadcast (to, from, type, data).\n"
+    codes "# The frames that enter here, in hexadecimal digits: one broadcast (destination, source, type, data).\n"
     ++ codes "in = [\"ffffffffffff02000000010108004142\"]\n"
 
 abbrev pub in_text : ℕ → List ℕ
@@ -89,18 +95,20 @@ port_text topology port =
     codes "\n[[port]]\nname = \"C" ++ decimal port ++ codes "\"\nbridge = \"B" ++ decimal (site_of topology port)
     ++ codes "\"\nport = 3\nservice = \"red\"\n" ++ in_text port
 
--- ports of the kinds that need files or a peer, as comments
+-- the comment on ports of other kinds
 abbrev pub needs_text : List ℕ
 needs_text =
     codes "\n"
-    ++ codes "# Ports of other kinds: one reads frames from a capture file (pcap) and writes to another, one is at\n"
-    ++ codes "# a Unix socket. The file to read has to be there, and a peer has to listen at the socket.\n"
+    ++ codes "# Ports of other kinds: a capture port reads frames from one file (pcap) and writes to another, and a\n"
+    ++ codes "# socket port exchanges frames over a Unix socket. The file to read must exist, and a peer must listen.\n"
 
+-- a port between capture files, as a comment
 abbrev pub capture_text : ℕ → List ℕ
 capture_text bridge =
     codes "\n#[[port]]\n#name = \"capture\"\n#bridge = \"B" ++ decimal bridge
     ++ codes "\"\n#port = 4\n#service = \"red\"\n#kind = \"capture\"\n#read = \"in.pcap\"\n#write = \"out.pcap\"\n"
 
+-- a port at a socket, as a comment
 abbrev pub socket_text : ℕ → List ℕ
 socket_text bridge =
     codes "\n#[[port]]\n#name = \"socket\"\n#bridge = \"B" ++ decimal bridge

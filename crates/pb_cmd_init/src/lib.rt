@@ -1,4 +1,5 @@
-//! A plan file to begin with: the command `init`.
+//! The command `init`: writes a starter plan for a line, a ring or a star of bridges. Uses pb_frame and
+//! pb_messages. Begin with [`write_plan`].
 #![tactic(auto)]
 
 mod parts;

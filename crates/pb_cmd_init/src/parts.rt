@@ -1,4 +1,4 @@
-//! The parts of a plan file of which there are several.
+//! The parts of a starter plan that occur several times: bridges, links and customer ports.
 
 ghost use Rattle.std.specs.Prelude.{◌≡◌, ◌+◌, ◌≤◌, ◌++◌, flat_map, string_bytes, OnOk};
 ghost use Rattle.std.specs.List.{range_with_len};
@@ -9,12 +9,16 @@ use crate::topology::{Ends, Topology};
 use pb_frame::{Mac, Memory};
 use std::alloc::Global;
 
-/// What the first customer port has besides: a frame that comes in.
+/// The frame that enters at the first customer port.
 const BROADCAST: &str = "\
-# The frames that come in here, in hexadecimal digits: one broadcast (to, from, type, data).\n\
+# The frames that enter here, in hexadecimal digits: one broadcast (destination, source, type, data).\n\
 in = [\"ffffffffffff02000000010108004142\"]\n";
 
-/// A bridge. Its address ends in its number.
+/// Appends a bridge to a text. Its address ends in its number.
+///
+/// # Errors
+///
+/// `Memory` if an allocation failed. A part of it may follow the text then.
 fn put_bridge(alloc: Global, out: &mut String, bridge: u8) -> Result<(), Memory>
     ensures { OnOk result (string_bytes out.new ≡ string_bytes out.old ++ bridge_text bridge) }
 {
@@ -26,7 +30,11 @@ fn put_bridge(alloc: Global, out: &mut String, bridge: u8) -> Result<(), Memory>
     Ok(())
 }
 
-/// All bridges.
+/// Appends all bridges to a text.
+///
+/// # Errors
+///
+/// `Memory` if an allocation failed. A part of them may follow the text then.
 pub(crate) fn put_bridges(alloc: Global, out: &mut String, topology: Topology) -> Result<(), Memory>
     ensures { OnOk result (string_bytes out.new ≡ string_bytes out.old
         ++ flat_map bridge_text (range_with_len 1 (bridge_count topology))) }
@@ -37,7 +45,11 @@ pub(crate) fn put_bridges(alloc: Global, out: &mut String, topology: Topology) -
     Ok(())
 }
 
-/// A link.
+/// Appends a link to a text.
+///
+/// # Errors
+///
+/// `Memory` if an allocation failed. A part of it may follow the text then.
 fn put_link(out: &mut String, topology: Topology, link: u8) -> Result<(), Memory>
     requires { link ≤ link_count topology }
     ensures { OnOk result (string_bytes out.new ≡ string_bytes out.old ++ link_text topology link) }
@@ -55,7 +67,11 @@ fn put_link(out: &mut String, topology: Topology, link: u8) -> Result<(), Memory
     Ok(())
 }
 
-/// All links.
+/// Appends all links to a text.
+///
+/// # Errors
+///
+/// `Memory` if an allocation failed. A part of them may follow the text then.
 pub(crate) fn put_links(out: &mut String, topology: Topology) -> Result<(), Memory>
     ensures { OnOk result (string_bytes out.new ≡ string_bytes out.old
         ++ flat_map (link_text topology) (range_with_len 1 (link_count topology))) }
@@ -66,14 +82,18 @@ pub(crate) fn put_links(out: &mut String, topology: Topology) -> Result<(), Memo
     Ok(())
 }
 
-/// What comes in at a customer port.
+/// Returns the key for the frames that enter at a customer port: a broadcast at the first port, else nothing.
 fn incoming(port: u8) -> &'static str
     ensures { result.now ≡ in_text port }
 {
     if port == 1 { BROADCAST } else { "" }
 }
 
-/// A customer port.
+/// Appends a customer port to a text.
+///
+/// # Errors
+///
+/// `Memory` if an allocation failed. A part of it may follow the text then.
 fn put_port(out: &mut String, topology: Topology, port: u8) -> Result<(), Memory>
     requires { port ≤ port_count topology }
     ensures { OnOk result (string_bytes out.new ≡ string_bytes out.old ++ port_text topology port) }
@@ -87,7 +107,11 @@ fn put_port(out: &mut String, topology: Topology, port: u8) -> Result<(), Memory
     Ok(())
 }
 
-/// All customer ports.
+/// Appends all customer ports to a text.
+///
+/// # Errors
+///
+/// `Memory` if an allocation failed. A part of them may follow the text then.
 pub(crate) fn put_ports(out: &mut String, topology: Topology) -> Result<(), Memory>
     ensures { OnOk result (string_bytes out.new ≡ string_bytes out.old
         ++ flat_map (port_text topology) (range_with_len 1 (port_count topology))) }

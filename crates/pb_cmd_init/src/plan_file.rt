@@ -1,4 +1,4 @@
-//! The plan file.
+//! The whole starter plan.
 
 ghost use Rattle.std.specs.Prelude.{◌≡◌, ◌≢◌, ◌⊎◌, ◌++◌, string_bytes, IfErr, OnOk};
 ghost use Rattle.std.specs.Io.KnownBytes.{Appends, Keeps};
@@ -12,7 +12,11 @@ use pb_messages::{CommandFault, write_whole};
 use std::alloc::Global;
 use std::io::Write;
 
-/// Puts the plan file behind a text.
+/// Appends the starter plan to a text.
+///
+/// # Errors
+///
+/// `Memory` if an allocation failed. A part of it may follow the text then.
 fn put_plan(alloc: Global, out: &mut String, topology: Topology) -> Result<(), Memory>
     ensures { OnOk result (string_bytes out.new ≡ string_bytes out.old ++ plan_text topology) }
 {
@@ -24,12 +28,14 @@ fn put_plan(alloc: Global, out: &mut String, topology: Topology) -> Result<(), M
     put_kinds(out, topology.first_site())
 }
 
-/// Writes a plan file to begin with, by one `write_all`: its bridges are joined in this topology, it has one service,
-/// and each bridge but the centre of a star has a customer port. A broadcast comes in at the first of these. Comments
-/// tell what each part is for. With the numbers that [`Topology`] states it is a plan that `read_plan` takes.
+/// Writes a starter plan by one `write_all`. Its bridges are connected in this topology. It has one service, and each
+/// bridge except the centre of a star has a customer port. A broadcast enters at the first customer port. Comments
+/// describe each part. With the numbers of bridges that [`Topology`] allows, `read_plan` accepts it.
 ///
-/// `Memory` is answered where memory ran out for the text, and then nothing was written; `Write` where a write
-/// failed, and then nothing is said of what was written. No other fault comes.
+/// # Errors
+///
+/// `Memory` if an allocation for the text failed. Nothing is written then. `Write` if a write failed. Any part of the
+/// plan may be written then. No other error is returned.
 pub fn write_plan<W: Write>(
     alloc: Global,
     topology: Topology,

@@ -1,4 +1,4 @@
-//! The parts of a plan file of which there is one.
+//! The parts of a starter plan that occur once: head, keys, service, and ports of other kinds.
 
 ghost use Rattle.std.specs.Prelude.{◌≡◌, ◌++◌, string_bytes, OnOk};
 ghost use Rattle.pb_cmd_init.specs.PlanTexts.{head_text, keys_text, places_text, service_text};
@@ -7,59 +7,59 @@ ghost use Rattle.pb_cmd_init.specs.PlanTexts.{capture_text, socket_text, kinds_t
 use crate::topology::Topology;
 use pb_frame::Memory;
 
-/// What the file is, and how to go on.
+/// The head of the file: what it is, and the next commands.
 const HEAD: &str = "\
-# A plan for pbnet. With this in a file FILE,\n\
+# A starter plan for pbnet. If this is the file FILE,\n\
 #\n\
-#   pbnet check FILE   tells what the plan has, or which rule it breaks;\n\
-#   pbnet run FILE     runs the network, and reports what entered and left;\n\
-#   pbnet step FILE    drives it event by event, by lines of standard input.\n\
+#   pbnet check FILE   validates the plan, and reports forwarding loops;\n\
+#   pbnet run FILE     runs the network, and counts the frames that enter and leave;\n\
+#   pbnet step FILE    drives the network event by event from a script on standard input.\n\
 #\n\
-# docs/PLAN_FILE.md has every key. A # right before a key or a table may be taken away, to try it.\n\
+# docs/PLAN_FILE.md describes every key. Remove a # directly before a key or a table to use it.\n\
 \n\
 [network]\n";
 
-/// The network's keys where the links form no ring.
+/// The keys of a network whose links form no loop.
 const FIXED: &str = "\
-# The links form no ring, so each port between bridges forwards from the start. With these keys\n\
-# the bridges find a spanning tree (RSTP) first:\n\
+# The links form no loop: each port between bridges is forwarding from the start. With these keys\n\
+# the bridges compute a spanning tree (RSTP) first:\n\
 #spanning = \"rstp\"\n\
 #tick_ms = 10\n\
 #hold = 200\n";
 
-/// The same where they form one.
+/// The keys of a network whose links form a loop.
 const RSTP: &str = "\
-# The links form a ring. A spanning tree (RSTP) keeps a broadcast from going round for ever.\n\
+# The links form a loop. The spanning tree (RSTP) opens it: no frame circulates.\n\
 spanning = \"rstp\"\n\
-# The clock: a tick stands for a second of the spanning tree, and takes 10 milliseconds here. A\n\
+# The clock: a tick represents a second of the standard, and takes 10 milliseconds here. A\n\
 # large ring on a busy machine needs more.\n\
 tick_ms = 10\n\
-# No frame enters before 200 ticks: first a tree, then traffic.\n\
+# No frame enters before 200 ticks, while the bridges converge.\n\
 hold = 200\n";
 
-/// What is told of the bridges and links.
+/// The comment on bridges and links.
 const PLACES: &str = "\
 \n\
-# The bridges, each with ports 1 to 16 and an address, and the links between them.\n";
+# The bridges, each with an address and the ports 1 to 16, and the links between them.\n";
 
-/// The service, and what is told of the customer ports.
+/// The service, and the comment on customer ports.
 const SERVICE: &str = "\
 \n\
-# A service is a network of its own: what enters one of its customer ports leaves the others, and no\n\
-# port of another service. Between bridges its frames have an S-tag with this VID, 1 to 4094.\n\
+# A service connects customer ports: a frame that enters one of them can leave only the others of this\n\
+# service. Between bridges its frames have an S-tag with this VID, 1 to 4094.\n\
 [[service]]\n\
 name = \"red\"\n\
 vid = 100\n\
 \n\
-# The customer ports, each at a port of a bridge.\n";
+# The customer ports. Each is a port of a bridge.\n";
 
-/// What is told of ports of other kinds.
+/// The comment on ports of other kinds.
 const KINDS: &str = "\
 \n\
-# Ports of other kinds: one reads frames from a capture file (pcap) and writes to another, one is at\n\
-# a Unix socket. The file to read has to be there, and a peer has to listen at the socket.\n";
+# Ports of other kinds: a capture port reads frames from one file (pcap) and writes to another, and a\n\
+# socket port exchanges frames over a Unix socket. The file to read must exist, and a peer must listen.\n";
 
-/// The keys of the network.
+/// Returns the keys of the network.
 fn keys_of(topology: Topology) -> &'static str
     ensures { result.now ≡ keys_text topology }
 {
@@ -69,7 +69,11 @@ fn keys_of(topology: Topology) -> &'static str
     }
 }
 
-/// All that stands before the bridges.
+/// Appends all that comes before the bridges to a text.
+///
+/// # Errors
+///
+/// `Memory` if an allocation failed. A part of it may follow the text then.
 pub(crate) fn put_head(out: &mut String, topology: Topology) -> Result<(), Memory>
     ensures { OnOk result (string_bytes out.new ≡ string_bytes out.old
         ++ (head_text ++ keys_text topology ++ places_text)) }
@@ -80,7 +84,11 @@ pub(crate) fn put_head(out: &mut String, topology: Topology) -> Result<(), Memor
     Ok(())
 }
 
-/// The service.
+/// Appends the service to a text.
+///
+/// # Errors
+///
+/// `Memory` if an allocation failed. The text is unchanged then.
 pub(crate) fn put_service(out: &mut String) -> Result<(), Memory>
     ensures { OnOk result (string_bytes out.new ≡ string_bytes out.old ++ service_text) }
 {
@@ -88,7 +96,11 @@ pub(crate) fn put_service(out: &mut String) -> Result<(), Memory>
     Ok(())
 }
 
-/// A port between capture files, at this bridge, as a comment.
+/// Appends a port between capture files at this bridge, as a comment.
+///
+/// # Errors
+///
+/// `Memory` if an allocation failed. A part of it may follow the text then.
 fn put_capture(out: &mut String, bridge: u8) -> Result<(), Memory>
     ensures { OnOk result (string_bytes out.new ≡ string_bytes out.old ++ capture_text bridge) }
 {
@@ -100,7 +112,11 @@ fn put_capture(out: &mut String, bridge: u8) -> Result<(), Memory>
     Ok(())
 }
 
-/// A port at a socket, at this bridge, as a comment.
+/// Appends a port at a socket at this bridge, as a comment.
+///
+/// # Errors
+///
+/// `Memory` if an allocation failed. A part of it may follow the text then.
 fn put_socket(out: &mut String, bridge: u8) -> Result<(), Memory>
     ensures { OnOk result (string_bytes out.new ≡ string_bytes out.old ++ socket_text bridge) }
 {
@@ -112,7 +128,11 @@ fn put_socket(out: &mut String, bridge: u8) -> Result<(), Memory>
     Ok(())
 }
 
-/// Ports of other kinds, at this bridge, as comments.
+/// Appends ports of other kinds at this bridge, as comments.
+///
+/// # Errors
+///
+/// `Memory` if an allocation failed. A part of them may follow the text then.
 pub(crate) fn put_kinds(out: &mut String, bridge: u8) -> Result<(), Memory>
     ensures { OnOk result (string_bytes out.new ≡ string_bytes out.old ++ kinds_text bridge) }
 {

@@ -1,21 +1,21 @@
-//! How the bridges of a network are joined.
+//! The topologies of a starter plan, and the ends of their links.
 
 ghost use Rattle.std.specs.Prelude.{◌≡◌, ◌+◌, ◌≤◌};
 ghost use Rattle.pb_cmd_init.specs.Topologies.{bridge_count, link_count, port_count, site_of, ends_of};
 
-/// The topology of a network: how its bridges are joined, and how many there are.
+/// The topology of a network: how its bridges are connected, and how many there are.
 #[derive(Clone, Copy, PartialEq, Eq, Debug)]
 pub enum Topology {
-    /// Each but the last is joined to the next. A plan takes 1 to 32.
+    /// A line: each bridge is connected to the next. A plan allows 1 to 32 bridges.
     Line(u8),
-    /// A line whose last bridge is joined to the first. A plan takes 3 to 32: fewer have no such ring.
+    /// A ring: a line whose last bridge is connected to the first. A plan allows 3 to 32 bridges.
     Ring(u8),
-    /// The first, the centre, is joined to each of the others, and has no customers. A plan takes 2 to 17: the centre
-    /// has sixteen ports.
+    /// A star: the first bridge, the centre, is connected to each of the others and has no customer ports. A plan
+    /// allows 2 to 17 bridges, because the centre has sixteen ports.
     Star(u8),
 }
 
-/// The ends of a link: a bridge with its local port, and another.
+/// The ends of a link: the bridges `a` and `b`, and the local port of each.
 #[derive(Clone, Copy)]
 pub(crate) struct Ends {
     pub(crate) a: u8,
@@ -25,7 +25,7 @@ pub(crate) struct Ends {
 }
 
 impl Topology {
-    /// Returns how many bridges there are.
+    /// Returns the number of bridges.
     pub(crate) fn bridges(self) -> u8
         ensures { result ≡ bridge_count self }
     {
@@ -34,7 +34,7 @@ impl Topology {
         }
     }
 
-    /// Returns how many links there are.
+    /// Returns the number of links.
     pub(crate) fn links(self) -> u8
         ensures { result ≡ link_count self }
     {
@@ -44,7 +44,7 @@ impl Topology {
         }
     }
 
-    /// Returns how many customer ports there are.
+    /// Returns the number of customer ports.
     pub(crate) fn ports(self) -> u8
         ensures { result ≡ port_count self }
     {
@@ -54,7 +54,7 @@ impl Topology {
         }
     }
 
-    /// Returns the bridge of the customer port of this number.
+    /// Returns the bridge of the customer port with this number.
     pub(crate) fn site(self, port: u8) -> u8
         requires { port ≤ port_count self }
         ensures { result ≡ site_of self port }
@@ -75,7 +75,7 @@ impl Topology {
         }
     }
 
-    /// Returns the ends of the link of this number.
+    /// Returns the ends of the link with this number.
     pub(crate) fn ends(self, link: u8) -> Ends
         requires { link ≤ link_count self }
         ensures { result ≡ ends_of self link }

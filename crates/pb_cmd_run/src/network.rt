@@ -96,7 +96,7 @@ fn show<E: Write>(text: &str, errors: &mut E) {
 
 /// Writes a line to `errors` that the control socket can't be made.
 fn show_unmade<E: Write>(alloc: Global, path: &str, error: &io::Error, errors: &mut E) {
-    if let Ok(text) = format!(in alloc; "control {path}: {error}\n") {
+    if let Ok(text) = format!(in alloc; "error: cannot create control socket {path}: {error}\n") {
         show(text.as_str(), errors);
     }
 }
@@ -143,9 +143,9 @@ fn show_left<E: Write>(alloc: Global, left: u64, errors: &mut E) {
         return;
     }
     let text = if left == 1 {
-        String::from_str(alloc, "1 event has not come\n")
+        String::from_str(alloc, "warning: 1 event did not take place\n")
     } else {
-        format!(in alloc; "{left} events have not come\n")
+        format!(in alloc; "warning: {left} events did not take place\n")
     };
     if let Ok(text) = text {
         show(text.as_str(), errors);

@@ -58,7 +58,8 @@ pub(crate) fn show_pcapng<E: Write>(
         }
         let name = name_at(customers, capture.place);
         if let Ok(line) = format!(in alloc;
-            "port {name}: {path} is pcapng: editcap -F pcap writes what is read here\n"
+            "error: port {name}: cannot read {path}: it is a pcapng file\n\
+             hint: convert it to pcap by `editcap -F pcap`\n"
         ) {
             let _ = write_whole(errors, line.as_bytes());
         }

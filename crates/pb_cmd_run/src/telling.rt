@@ -30,8 +30,8 @@ fn word_of(verb: Verb) -> &'static str
     match verb {
         Verb::Read => "read",
         Verb::Write => "write",
-        Verb::Connect => "connect",
-        Verb::Listen => "listen",
+        Verb::Connect => "connect to",
+        Verb::Listen => "listen on",
     }
 }
 
@@ -40,7 +40,7 @@ fn put_line(out: &mut String, name: &str, word: &str, path: &str, why: &str) -> 
     ensures { OnOk result (string_bytes out.new ≡ string_bytes out.old
         ++ path_line name.now word.now path.now why.now) }
 {
-    writeln!(out, "port {name}: {word} {path}: {why}")?;
+    writeln!(out, "error: port {name}: cannot {word} {path}: {why}")?;
     Ok(())
 }
 
@@ -65,7 +65,7 @@ fn write_line<W: Write>(
     write_whole(writer, out.as_bytes())
 }
 
-/// Writes `port NAME: VERB PATH: WHY` for a path that a port could not use. WHY is the error of the system.
+/// Writes `error: port NAME: cannot VERB PATH: WHY` for a path that a port could not use. WHY is the error of the system.
 ///
 /// # Errors
 ///
@@ -102,7 +102,7 @@ fn sharing(alloc: Global, customers: &[CustomerPlan], other: FileUser) -> Result
     }
 }
 
-/// Writes `port NAME: VERB PATH: WHY` for the fault in opening the ports of a plan. Writes nothing for `Memory`.
+/// Writes `error: port NAME: cannot VERB PATH: WHY` for the fault in opening the ports of a plan. Writes nothing for `Memory`.
 ///
 /// # Errors
 ///

@@ -1,4 +1,4 @@
--- What is answered to a line of no form.
+-- The message for an invalid line.
 use Rattle.std.specs.Prelude.{ℕ, List, [], ◌∷◌, ◌++◌, codes}
 use Rattle.std.specs.Fmt.{decimal}
 
@@ -6,6 +6,6 @@ use Rattle.std.specs.Fmt.{decimal}
 abbrev pub longest_line : ℕ
 longest_line = 140000
 
--- the line of this number is none that is known
+-- the line of this number is not a valid line
 abbrev pub bad_line : ℕ → List ℕ
 bad_line number = codes "line " ++ decimal number ++ codes ": bad" ++ 10 ∷ []

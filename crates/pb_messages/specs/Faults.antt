@@ -1,4 +1,4 @@
--- What ends a command where no line can be read.
+-- The fault that ends a command if a line cannot be read.
 use Rattle.pb_lines.specs.declared.LineFault.{LineFault}
 use Rattle.pb_lines.specs.declared.LineFault.TheVariants.{Read as line_unread, Memory as line_unheld}
 use Rattle.pb_messages.specs.declared.fault.CommandFault.{CommandFault}

@@ -1,4 +1,4 @@
--- Words for why a frame went nowhere.
+-- The reasons for which a frame is dropped.
 use Rattle.std.specs.Prelude.{ℕ, List, ◌++◌, codes}
 use Rattle.std.specs.Fmt.{decimal}
 use Rattle.pb_frame.specs.declared.reason.Reason.{Reason}

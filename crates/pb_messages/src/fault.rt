@@ -1,4 +1,4 @@
-//! What ends a command early.
+//! The faults that end a command early.
 
 ghost use Rattle.std.specs.Prelude.{◌≡◌};
 ghost use Rattle.pb_messages.specs.declared.fault.CommandFault.TheVariants.{Memory as memory_fault};
@@ -9,19 +9,19 @@ use pb_lines::LineFault;
 use std::alloc::{AllocError, AllocFailed};
 use thiserror::Error;
 
-/// Why a command ended early.
+/// The fault that ended a command early. It is displayed as the word after `fault:`.
 #[derive(Clone, Copy, Debug, PartialEq, Eq, Error)]
 pub enum CommandFault {
-    /// A read failed, other than by an interruption, or too many were made.
+    /// A failed read that was not interrupted, or too many reads.
     #[error("read")]
     Read,
-    /// A write failed.
+    /// A failed write.
     #[error("write")]
     Write,
-    /// A place has taken as many steps as its plan allows.
+    /// A place that has taken as many steps as its plan allows.
     #[error("steps")]
     Steps,
-    /// Memory ran out.
+    /// A failed allocation.
     #[error("memory")]
     Memory,
 }

@@ -1,5 +1,6 @@
-//! What every command prints alike: why it ended early, that a line is not valid, and why a frame was dropped. Writing
-//! of a whole text, and reading of the arguments of a line.
+//! Messages that several commands print: the word of a fault, `line N: bad`, and the reason for which a frame was
+//! dropped. Also writes a whole text, and reads the arguments of a line. Uses pb_lan and pb_lines. Begin with
+//! [`CommandFault`].
 #![tactic(auto)]
 
 mod bad;

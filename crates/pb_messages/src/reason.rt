@@ -1,4 +1,4 @@
-//! Words for reasons.
+//! Drop reasons.
 
 ghost use Rattle.std.specs.Prelude.{◌≡◌, ◌++◌, string_bytes, OnOk};
 ghost use Rattle.pb_messages.specs.Reasons.{reason_word};
@@ -6,8 +6,11 @@ ghost use Rattle.pb_messages.specs.Reasons.{reason_word};
 use pb_frame::Memory;
 use pb_lan::Reason;
 
-/// Puts the word for why a frame went nowhere behind a text. `Memory` is answered where memory ran out, and then a part
-/// of it may stand there.
+/// Appends the reason for which a frame was dropped to a text.
+///
+/// # Errors
+///
+/// `Memory` if an allocation failed. A part of the reason may follow the text then.
 pub fn put_reason(out: &mut String, reason: Reason) -> Result<(), Memory>
     ensures { OnOk result (string_bytes out.new ≡ string_bytes out.old ++ reason_word reason) }
 {

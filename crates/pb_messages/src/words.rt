@@ -1,11 +1,11 @@
-//! Words and numbers in lines.
+//! The arguments of a line.
 
 ghost use Rattle.std.specs.Prelude.{◌≡◌, ◌≤◌, ◌<◌, ◌+◌, ◌==◌, ◌++◌, ◌∷◌, Some, None, IfSome, IfNone, length, take};
 ghost use Rattle.std.specs.Prelude.{drop};
 ghost use Rattle.std.specs.List.{position};
 ghost use Rattle.pb_messages.specs.Words.{cut as cut_at, HasNoSpace, port_of, local_port};
 
-/// Where the first space stands.
+/// Returns the index of the first space.
 fn space_in(text: &[u8]) -> Option<usize>
     ensures place { result ≡ position (λ c. c == 32) text.now }
     ensures some { IfSome result (λ i. (i < length text.now)
@@ -15,7 +15,7 @@ fn space_in(text: &[u8]) -> Option<usize>
     text.iter().position(|c| *c == b' ')
 }
 
-/// The parts in front of the first space and behind it.
+/// Splits a text at its first space, which is in neither part. Returns None if there is no space.
 pub fn cut(text: &[u8]) -> Option<(&[u8], &[u8])>
     ensures some { IfSome result (λ parts. cut_at text.now ≡ Some (parts.0.now, parts.1.now)) }
     ensures none { IfNone result (cut_at text.now ≡ None) }
@@ -28,7 +28,7 @@ pub fn cut(text: &[u8]) -> Option<(&[u8], &[u8])>
     }
 }
 
-/// What a port's digits say: one to three, the first not 0.
+/// Returns the number of a port: one to three decimal digits, the first not 0. Returns None for any other text.
 pub fn read_port(digits: &[u8]) -> Option<u16>
     ensures { result ≡ port_of digits.now }
 {
@@ -42,7 +42,7 @@ pub fn read_port(digits: &[u8]) -> Option<u16>
     }
 }
 
-/// A bridge's local port; a number above its sixteen names none, as 0 does.
+/// Returns the local port of a bridge, 1 to 16. Returns 0, which is no port, for a number above 16.
 pub fn local_port(number: u16) -> u8
     ensures { result ≡ local_port number }
 {

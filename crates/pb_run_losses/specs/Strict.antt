@@ -15,7 +15,7 @@ use Rattle.pb_run_losses.specs.declared.strictness.Strictness.TheVariants.{Stric
 
 -- the line that the bridges have not converged
 abbrev pub unsettled_line : Result (Option Bool) Memory → List ℕ
-unsettled_line (Ok (Some false)) = codes "bridges not settled" ++ 10 ∷ []
+unsettled_line (Ok (Some false)) = codes "bridges not converged" ++ 10 ∷ []
 unsettled_line _ = []
 
 -- the loss report: frames that ports could not write, drops of bridges, and whether the bridges have converged

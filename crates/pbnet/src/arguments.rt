@@ -1,4 +1,4 @@
-//! The arguments of the command line.
+//! Reads the arguments of the command line.
 
 ghost use Rattle.std.specs.Prelude.{◌≡◌, ◌⊎◌, IfErr};
 ghost use Rattle.std.specs.Process.{exit_status};
@@ -12,11 +12,11 @@ use std::process::ExitCode;
 use std::rt::Env;
 use std::{env, io};
 
-/// Reads the arguments of the command line, of which the first is the program's name.
+/// Returns the arguments of the command line. The first one is the name of the program.
 ///
 /// # Errors
 ///
-/// One of them is not UTF-8, or an allocation failed.
+/// `io::Error` if an argument is not valid UTF-8. Its kind is `OutOfMemory` if an allocation failed.
 fn read_arguments(rt: &(impl Env + AllocGlobal)) -> io::Result<Vec<String>> {
     let mut arguments = Vec::new(rt.alloc());
     for argument in env::args(rt)? {
@@ -25,19 +25,23 @@ fn read_arguments(rt: &(impl Env + AllocGlobal)) -> io::Result<Vec<String>> {
     Ok(arguments)
 }
 
-/// Reports why the arguments of the command line can't be read, and returns the exit status.
+/// Reports why the arguments of the command line cannot be read. Returns the exit status: 2 if one is not valid UTF-8,
+/// 3 if an allocation failed.
 fn unread(rt: &(impl Print + Eprint), error: &io::Error) -> ExitCode
     ensures { (exit_status result ≡ 2) ⊎ (exit_status result ≡ 3) }
 {
     if error.kind() == ErrorKind::OutOfMemory {
         return tell(rt, CommandFault::Memory);
     }
-    let _ = eprintln!(rt; "error: a word of the command line is not UTF-8");
+    let _ = eprintln!(rt; "error: an argument is not valid UTF-8");
     ExitCode::from(WRONG_ARGUMENTS)
 }
 
-/// Returns the arguments of the command line, of which the first is the program's name. Reports on standard error if
-/// one is not UTF-8, and returns the exit status for it; so too if an allocation failed.
+/// Returns the arguments of the command line. The first one is the name of the program.
+///
+/// # Errors
+///
+/// The exit status, after a message: 2 if an argument is not valid UTF-8, 3 if an allocation failed.
 pub(crate) fn arguments_of(
     rt: &(impl Env + Print + Eprint + AllocGlobal),
 ) -> Result<Vec<String>, ExitCode>
@@ -49,8 +53,8 @@ pub(crate) fn arguments_of(
     }
 }
 
-/// Prints the parser's message, and returns the exit status for it: 0 if it is the help or the version, 2 if the
-/// arguments are refused, 3 if an allocation failed.
+/// Prints the message of the parser. Returns the exit status: 0 after the help or the version, 2 if the arguments are
+/// refused, 3 if an allocation failed.
 pub(crate) fn refuse(rt: &(impl Print + Eprint), error: Error) -> ExitCode
     ensures { (exit_status result ≡ 0) ⊎ (exit_status result ≡ 2) ⊎ (exit_status result ≡ 3) }
 {

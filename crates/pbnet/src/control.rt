@@ -9,22 +9,22 @@ use std::net::Net;
 use std::os::unix::net::UnixStream;
 use std::process::ExitCode;
 
-/// The argument that has the commands read from standard input.
+/// The argument for the commands on standard input.
 const FROM_INPUT: &str = "-";
 
-/// Returns whether an argument has a line feed in it.
+/// Returns whether an argument contains a line feed.
 fn has_line_feed(argument: &String) -> bool {
     argument.as_bytes().contains(&b'\n')
 }
 
-/// Sends commands to the run that listens at a path, and prints its answers.
+/// Sends commands to the run whose control socket is at a path, and prints its answers. Returns the exit status.
 pub(crate) fn control<R: Input + Print + Eprint + Net + AllocGlobal>(
     rt: &R,
     options: &ControlOptions,
 ) -> ExitCode {
     let arguments = options.arguments.as_slice();
     if arguments.iter().any(has_line_feed) {
-        let _ = eprintln!(rt; "error: an argument of control has a line feed in it");
+        let _ = eprintln!(rt; "error: invalid value for '<COMMAND>...': it contains a line feed");
         return ExitCode::from(WRONG_ARGUMENTS);
     }
     match UnixStream::connect(rt, options.path.as_str()) {
@@ -33,7 +33,12 @@ pub(crate) fn control<R: Input + Print + Eprint + Net + AllocGlobal>(
     }
 }
 
-/// Sends the commands of the arguments, or those of standard input, over a connection, and prints the answers.
+/// Sends the commands of the arguments, or those of standard input, over a connection, and prints the answers. Returns
+/// the exit status.
+///
+/// # Errors
+///
+/// The fault that ended the conversation: of the connection, of standard input or output, or of an allocation.
 fn talk<R: Input + Print + AllocGlobal>(
     rt: &R,
     arguments: &[String],
@@ -64,27 +69,31 @@ fn talk<R: Input + Print + AllocGlobal>(
     )
 }
 
-/// Reports that nothing listens at the path.
+/// Reports that no run can be reached at a path. Returns the exit status 3.
 fn unreachable_at(rt: &(impl Print + Eprint), path: &str, error: &io::Error) -> ExitCode {
     let status = tell(rt, "path");
     let _ = match error.kind() {
         ErrorKind::NotFound | ErrorKind::ConnectionRefused => {
-            eprintln!(rt; "{path}: no run listens there: start one by `pbnet run --control {path}`")
+            eprintln!(rt;
+                "error: cannot connect to {path}: no run listens there\n\
+                 hint: start one by `pbnet run FILE --control {path}`"
+            )
         }
-        _ => eprintln!(rt; "{path}: {error}"),
+        _ => eprintln!(rt; "error: cannot connect to {path}: {error}"),
     };
     status
 }
 
-/// Returns the exit status of a conversation. Standard error says why it ended early, and what to send instead of a
-/// command that was refused.
+/// Returns the exit status of a conversation. Reports on standard error if a command was refused, with a hint, and if
+/// the run disconnected.
 fn ended(rt: &(impl Print + Eprint), path: &str, outcome: Result<u8, ControlFault>) -> ExitCode {
     match outcome {
         Ok(0) => ExitCode::SUCCESS,
         Ok(status) => {
             let _ = eprintln!(rt;
-                "{path}: not every command was done: the commands are stop, counts, tree, down BRIDGE PORT and up \
-                 BRIDGE PORT, and tree lists each BRIDGE with its PORTs"
+                "error: {path}: the run refused a command\n\
+                 hint: the commands are stop, counts, tree, down BRIDGE PORT and up BRIDGE PORT; tree lists each \
+                 BRIDGE with its PORTs"
             );
             ExitCode::from(status)
         }
@@ -92,7 +101,7 @@ fn ended(rt: &(impl Print + Eprint), path: &str, outcome: Result<u8, ControlFaul
             let status = tell(rt, fault);
             if fault == ControlFault::HungUp {
                 let _ = eprintln!(rt;
-                    "{path}: the run hung up before it had answered every command"
+                    "error: {path}: the run disconnected before it answered every command"
                 );
             }
             status

@@ -11,7 +11,7 @@ use std::os::unix::fs::MetadataExt;
 use std::process::ExitCode;
 use std::{fs, io};
 
-/// Returns the form that the option names.
+/// Returns the form of the option `--format`.
 fn format_of(format: PictureFormat) -> Format {
     match format {
         PictureFormat::Svg => Format::Svg,
@@ -19,7 +19,7 @@ fn format_of(format: PictureFormat) -> Format {
     }
 }
 
-/// Draws the network of a plan file.
+/// Draws the network of a plan file on standard output or into a file. Returns the exit status.
 pub(crate) fn draw_network(
     rt: &(impl Files + Print + Eprint + AllocGlobal),
     options: &DrawOptions,
@@ -58,7 +58,7 @@ pub(crate) fn draw_network(
     }
 }
 
-/// Whether two paths lead to one file.
+/// Returns whether two paths name one file: the same device and inode.
 fn is_one_file(rt: &impl Files, first: &str, second: &str) -> bool {
     match (fs::metadata(rt, first), fs::metadata(rt, second)) {
         (Ok(first), Ok(second)) => first.dev() == second.dev() && first.ino() == second.ino(),
@@ -66,7 +66,11 @@ fn is_one_file(rt: &impl Files, first: &str, second: &str) -> bool {
     }
 }
 
-/// Puts a picture into a file, and what was told in place of one on standard output. The exit status where it can't be.
+/// Writes a picture to a file, or the refusal that replaces it to standard output.
+///
+/// # Errors
+///
+/// The exit status, after a message, if the file is the plan file, or cannot be opened or written.
 fn put(
     rt: &(impl Files + Print + Eprint + AllocGlobal),
     plan: &str,
@@ -81,7 +85,11 @@ fn put(
     written.map_err(|_| tell(rt, CommandFault::Write))
 }
 
-/// Writes a picture to a file that is not the plan file. The exit status where the file can't be opened.
+/// Writes a picture to a file that is not the plan file. Returns the result of the write.
+///
+/// # Errors
+///
+/// The exit status, after a message: 2 if the file is the plan file, 3 if it cannot be opened.
 fn save(
     rt: &(impl Files + Print + Eprint),
     plan: &str,
@@ -89,39 +97,45 @@ fn save(
     text: &[u8],
 ) -> Result<io::Result<()>, ExitCode> {
     if is_one_file(rt, plan, output) {
-        let _ = eprintln!(rt; "error: --output {output} is the plan file");
+        let _ = eprintln!(rt;
+            "error: invalid value '{output}' for '--output <PATH>': it is the plan file"
+        );
         return Err(ExitCode::from(WRONG_ARGUMENTS));
     }
     match fs::create(rt, output) {
         Ok(mut file) => Ok(file.write_all(text)),
         Err(e) => {
             let _ = println!(rt; "fault: path");
-            let _ = eprintln!(rt; "{output}: {e}");
+            let _ = eprintln!(rt; "error: cannot open {output}: {e}");
             Err(ExitCode::from(FAULT))
         }
     }
 }
 
-/// Says where the bridges had not settled when the picture was drawn.
+/// Warns if the bridges had not converged when the picture was drawn. Returns the exit status 0.
 fn drawn_at(rt: &impl Eprint, rest: Rest) -> ExitCode {
     if let Rest::Unsettled(ticks) = rest {
-        let _ = eprintln!(rt; "the bridges had not settled after {ticks} ticks");
+        let _ = eprintln!(rt; "warning: bridges not converged after {ticks} ticks");
     }
     ExitCode::SUCCESS
 }
 
-/// Reports that a `--down` names no port to another bridge.
+/// Reports that a `--down` names no port between bridges. Returns the exit status 2.
 fn no_port(rt: &impl Eprint, downs: &[String], index: usize) -> ExitCode {
     if let Some(down) = downs.get(index) {
-        let _ = eprintln!(rt; "error: --down {down} names no port to another bridge");
+        let _ = eprintln!(rt;
+            "error: invalid value '{down}' for '--down <BRIDGE:PORT>': no such port between bridges"
+        );
     }
     ExitCode::from(WRONG_ARGUMENTS)
 }
 
-/// Says that the plan has no service of the name.
+/// Reports that the plan lacks the service of `--service`. Returns the exit status 2.
 fn no_service(rt: &impl Eprint, service: Option<&str>) -> ExitCode {
     if let Some(name) = service {
-        let _ = eprintln!(rt; "error: --service {name} names no service of the plan");
+        let _ = eprintln!(rt;
+            "error: invalid value '{name}' for '--service <NAME>': no such service"
+        );
     }
     ExitCode::from(WRONG_ARGUMENTS)
 }

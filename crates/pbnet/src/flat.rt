@@ -1,4 +1,4 @@
-//! `flat` over standard input and output.
+//! The command `flat`, over standard input and output.
 
 ghost use Rattle.std.specs.Prelude.{◌≡◌, ◌≤◌, ◌⊎◌};
 ghost use Rattle.std.specs.Process.{exit_status};
@@ -10,11 +10,11 @@ use std::io::{BufWriter, Write};
 use std::process::ExitCode;
 use std::{io, mem};
 
-/// How many octets are gathered before they are written.
+/// The octets of output that are gathered for a write.
 const BUFFER: usize = 65_536;
 
-/// Runs one bridge with so many ports, 2 to 16, over the lines of standard input, as [`run_flat_on`] tells. The exit
-/// status is 0 where the lines came to their end, and 3 where a fault ended them, which is told.
+/// Runs one bridge with so many ports, 2 to 16, over the lines of standard input, as [`run_flat_on`] does. Returns the
+/// exit status: 0 at the end of the lines, 3 after a line `fault:`.
 pub(crate) fn flat(rt: &(impl Input + Print + AllocGlobal), ports: u8) -> ExitCode
     requires { (2 ≤ ports) × (ports ≤ 16) }
     ensures { (exit_status result ≡ 0) ⊎ (exit_status result ≡ 3) }

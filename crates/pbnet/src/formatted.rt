@@ -1,4 +1,4 @@
-//! Reports in the form that is asked for.
+//! Reports as text, JSON or CSV.
 
 use crate::telling::FAULT;
 use pb_cli::ReportFormat;
@@ -9,7 +9,7 @@ use std::io::Write;
 use std::process::ExitCode;
 use std::{io, str};
 
-/// Where a command prints its report: standard output, or memory, where the report is to be a document.
+/// The writer of a report: standard output for text, memory for a document.
 #[derive(Drop)]
 pub(crate) struct Output<'a, R> {
     rt: &'a R,
@@ -18,7 +18,7 @@ pub(crate) struct Output<'a, R> {
 }
 
 impl<'a, R: Print + AllocGlobal> Output<'a, R> {
-    /// Where a report of this form goes, of which nothing was printed yet.
+    /// Creates the writer of a report in this form.
     pub(crate) fn new(rt: &'a R, format: ReportFormat) -> Output<'a, R> {
         Output {
             rt,
@@ -27,7 +27,11 @@ impl<'a, R: Print + AllocGlobal> Output<'a, R> {
         }
     }
 
-    /// The document of what was kept. Without a table it is JSON.
+    /// Returns the document of the report in memory: CSV if the form is CSV and there is a table, else JSON.
+    ///
+    /// # Errors
+    ///
+    /// `FormatFault` if the report is not valid UTF-8 or has no document, or if an allocation failed.
     fn document(&self, form: &Form, table: Option<&Table>) -> Result<Vec<u8>, FormatFault> {
         let Ok(text) = str::from_utf8(self.kept.as_slice()) else {
             return Err(FormatFault::Unread);
@@ -40,8 +44,8 @@ impl<'a, R: Print + AllocGlobal> Output<'a, R> {
         Ok(json.into_bytes())
     }
 
-    /// Prints the document of the report, where it isn't text and so was printed. The exit status is that of the
-    /// command, or that of a fault where the document can't be made or printed.
+    /// Prints the document of the report, if its form is not text. Returns the exit status of the command, or 3 if the
+    /// document cannot be made or printed.
     pub(crate) fn end(self, form: &Form, table: Option<&Table>, status: ExitCode) -> ExitCode {
         if self.format == ReportFormat::Text {
             return status;
@@ -53,7 +57,7 @@ impl<'a, R: Print + AllocGlobal> Output<'a, R> {
         }
     }
 
-    /// Says which fault there was in making the document.
+    /// Prints a document with this fault alone, if the form is JSON. Returns the exit status 3.
     fn fail(&self, fault: impl Display + Drop) -> ExitCode {
         if self.format == ReportFormat::Json {
             let _ = println!(self.rt; "{{\"fault\": \"{fault}\"}}");

@@ -1,14 +1,14 @@
-//! What is told while failures are looked at.
+//! The progress of `survive`.
 
 use pb_cmd_survive::FailureProgress;
 use std::sync::atomic::{AtomicU64, Ordering};
 use std::time::Clock;
 
-/// What is told once a second of how many failures were looked at, on one line of standard error that is written anew.
+/// Reports once a second how many failures were analysed, on one line of standard error that is overwritten.
 #[derive(Drop)]
 pub struct Looks<'a, R> {
     rt: &'a R,
-    /// Whether it is told. Else nothing is.
+    /// Whether progress is reported.
     is_shown: bool,
     looked: AtomicU64,
     second: AtomicU64,
@@ -16,7 +16,7 @@ pub struct Looks<'a, R> {
 }
 
 impl<'a, R: Clock + Eprint> Looks<'a, R> {
-    /// Of looks that begin now. Nothing was told yet.
+    /// Creates the progress of an analysis that begins now.
     pub fn new(rt: &'a R, is_shown: bool) -> Looks<'a, R> {
         let second = match rt.monotonic() {
             Ok(now) => now.as_secs(),
@@ -31,7 +31,7 @@ impl<'a, R: Clock + Eprint> Looks<'a, R> {
         }
     }
 
-    /// Whether another second has begun since it was asked last.
+    /// Returns whether another second has begun since the previous call.
     fn is_due(&self) -> bool {
         match self.rt.monotonic() {
             Ok(now) => {
@@ -44,15 +44,16 @@ impl<'a, R: Clock + Eprint> Looks<'a, R> {
 }
 
 impl<R: Clock + Eprint + Sync> FailureProgress for Looks<'_, R> {
+    /// Counts a failure, and reports the count if another second has begun.
     fn looked(&self, failures: usize) {
         let looked = self.looked.fetch_add(1, Ordering::SeqCst).saturating_add(1);
         if self.is_shown && self.is_due() {
-            let _ = eprint!(self.rt; "\rsurvive: {looked} of {failures} failures looked at");
+            let _ = eprint!(self.rt; "\rsurvive: {looked} of {failures} failures analysed");
             self.lines.store(1, Ordering::SeqCst);
         }
     }
 
-    /// Ends the line, where one was written.
+    /// Ends the line, if one was written.
     fn close(&self) {
         if self.lines.swap(0, Ordering::SeqCst) != 0 {
             let _ = eprintln!(self.rt; "");

@@ -1,17 +1,8 @@
-//! A provider bridged Ethernet network in one process.
+//! The program `pbnet`: a provider bridged Ethernet network in one process.
 //!
-//! The exit status is 0 where all went well, 1 where a plan file was refused (standard error says at which line, as far
-//! as that can be told), 2 where the arguments of the command line are refused, and 3 after a line that begins with
-//! `fault:`. Such a line is the last one that is printed: `fault: read`, `write` or `memory` where reading, writing or
-//! memory failed, `steps` where a bridge had taken all its steps, `path` where a file can't be opened, a socket not be
-//! connected to, or a file has two uses (standard error says which), `spawn` where a thread could not be started, and,
-//! behind the report of a run, `port NAME N` for each port whose input has the fault N. A run that is strict has the
-//! status 4 where it would be 0 and a frame was lost, the run did not drain, or bridges have not settled; `survive` has
-//! it where a failure parts a service, and the status 2 where the plan lacks what is named, as `draw` has. `control`
-//! has the status 4 if a command was not done, and `fault: path` if no run listens.
-//!
-//! A report is printed in the form that is asked for: as lines, or as one document of them at the end, in which a fault
-//! stands under the key `fault`.
+//! Each command reads its options from pb_cli, calls the crate `pb_cmd_NAME`, and returns an exit status. Standard
+//! output has the report, or the line `fault: WORD`. Standard error has messages such as `error: cannot open FILE`.
+//! docs/COMMANDS.md and docs/RUNNING.md list all statuses and faults. Begin with `main`.
 #![tactic(auto)]
 
 mod arguments;
@@ -49,12 +40,13 @@ use std::{fs, io};
 use telling::{WRONG_ARGUMENTS, tell, tell_on};
 use trees::tree;
 
-/// The exit status where a plan file is refused.
+/// The exit status if the plan is refused.
 const REFUSED: u8 = 1;
 
-/// How many octets are gathered before they are written.
+/// The octets of output that are gathered for a write.
 const BUFFER: usize = 65_536;
 
+/// Runs the command of the command line. Returns the exit status.
 fn main(rt: HostRuntime) -> ExitCode {
     let arguments = match arguments_of(&rt) {
         Ok(arguments) => arguments,
@@ -83,8 +75,12 @@ fn main(rt: HostRuntime) -> ExitCode {
     }
 }
 
-/// What stands in the file at a path, or the exit status where it can't be opened or read, once the fault is told.
-/// Standard error says why it can't be opened.
+/// Returns the octets of the file at a path.
+///
+/// # Errors
+///
+/// The exit status 3, after a line `fault:`, if the file cannot be opened or read, or an allocation failed. Standard
+/// error says why it cannot be opened.
 fn contents<R: Files + Eprint + AllocGlobal, W: Write>(
     rt: &R,
     path: &str,
@@ -97,7 +93,7 @@ fn contents<R: Files + Eprint + AllocGlobal, W: Write>(
         }
         Err(e) => {
             let status = tell_on(out, "path");
-            let _ = eprintln!(rt; "{path}: {e}");
+            let _ = eprintln!(rt; "error: cannot open {path}: {e}");
             return Err(status);
         }
     };
@@ -109,14 +105,14 @@ fn contents<R: Files + Eprint + AllocGlobal, W: Write>(
     }
 }
 
-/// Tells whether a file is a plan, in the form that is asked for.
+/// Validates a plan file, and prints the report in the form of the options. Returns the exit status.
 fn check<R: Files + Print + Eprint + AllocGlobal>(rt: &R, options: &ReportOptions) -> ExitCode {
     let mut out = Output::new(rt, options.format);
     let status = check_on(rt, options.path.as_str(), &mut out);
     out.end(&CHECK, None, status)
 }
 
-/// Tells whether a file is a plan.
+/// Validates a plan file, and writes the report. Returns the exit status.
 fn check_on<R: Files + Eprint + AllocGlobal, W: Write>(
     rt: &R,
     path: &str,
@@ -132,7 +128,8 @@ fn check_on<R: Files + Eprint + AllocGlobal, W: Write>(
     }
 }
 
-/// Drives the network of a plan file over standard input, and reports in the form that is asked for.
+/// Drives the network of a plan file by the script on standard input, and prints the report in the form of the options.
+/// Returns the exit status.
 fn step<R: Files + Input + Print + Eprint + AllocGlobal>(
     rt: &R,
     options: &ReportOptions,
@@ -142,7 +139,7 @@ fn step<R: Files + Input + Print + Eprint + AllocGlobal>(
     out.end(&STEP, Some(&COUNTS), status)
 }
 
-/// Drives the network of a plan file over standard input.
+/// Drives the network of a plan file by the script on standard input, and writes the report. Returns the exit status.
 fn step_on<R: Files + Input + Eprint + AllocGlobal, W: Write>(
     rt: &R,
     path: &str,
@@ -158,8 +155,12 @@ fn step_on<R: Files + Input + Eprint + AllocGlobal, W: Write>(
     }
 }
 
-/// Drives the network of a plan file, by its octets, over standard input. The exit status is answered. Output is
-/// gathered before it is written.
+/// Drives the network of a plan file, given as octets, by the script on standard input. Returns the exit status. Output
+/// is gathered before it is written.
+///
+/// # Errors
+///
+/// The fault that ended the command: a failed read, write or allocation, or the limit of steps.
 fn step_over<R: Input + AllocGlobal, W: Write>(
     rt: &R,
     file: &[u8],
@@ -175,7 +176,8 @@ fn step_over<R: Input + AllocGlobal, W: Write>(
     status
 }
 
-/// How it is told how far a run is: on a terminal by one line, elsewhere by lines where that is asked for.
+/// Returns how the progress of a run is shown: on one line of a terminal, else on a line each second if `--progress` is
+/// present.
 fn shown_on(is_terminal: bool, is_asked_for: bool) -> Shown {
     if is_terminal {
         Shown::OneLine
@@ -186,7 +188,7 @@ fn shown_on(is_terminal: bool, is_asked_for: bool) -> Shown {
     }
 }
 
-/// Whether what is lost changes the exit status.
+/// Returns whether a loss changes the exit status.
 fn strictness_of(is_strict: bool) -> Strictness {
     if is_strict {
         Strictness::Strict
@@ -195,7 +197,7 @@ fn strictness_of(is_strict: bool) -> Strictness {
     }
 }
 
-/// Returns the settings of a run beside its plan file.
+/// Returns the settings of a run that are not in its plan file.
 fn settings_of(options: &RunOptions) -> RunSettings<'_> {
     RunSettings {
         plan: options.path.as_str(),
@@ -208,13 +210,17 @@ fn settings_of(options: &RunOptions) -> RunSettings<'_> {
     }
 }
 
-/// What is counted of a run, before it begins.
+/// Creates the counters of a run.
+///
+/// # Errors
+///
+/// `AllocError` if an allocation failed.
 fn new_traffic(alloc: Global) -> Result<Arc<Traffic, Global>, AllocError> {
     let traffic = Traffic::new(alloc)?;
     Ok(Arc::new(alloc, traffic)?)
 }
 
-/// Runs the network of a plan file, and reports on it in the form that is asked for.
+/// Runs the network of a plan file, and prints the report in the form of the options. Returns the exit status.
 fn run<R, E: Write>(rt: &R, options: &RunOptions, shown: Shown, errors: &mut E) -> ExitCode
 where
     R: Files<File = File> + Net + Threads + Wait + Clock + Print + Eprint + AllocGlobal + Sync,
@@ -224,7 +230,8 @@ where
     out.end(&RUN, Some(&COUNTS), status)
 }
 
-/// Runs the network of a plan file, and reports on it. What happens meanwhile is shown on standard error, or not.
+/// Runs the network of a plan file, and writes the report. Shows progress on standard error as `shown` says. Returns
+/// the exit status.
 fn run_on<R, W: Write, E: Write>(
     rt: &R,
     options: &RunOptions,
@@ -262,18 +269,18 @@ where
     }
 }
 
-/// The exit status of a command over a plan file. Where the file was refused, standard error says where it breaks a
-/// rule, as far as that can be told.
+/// Returns the exit status of a command over a plan file. If the plan is refused, reports on standard error where the
+/// file breaks the rule, if that is known.
 fn ended(rt: &(impl Eprint + AllocGlobal), path: &str, file: &[u8], status: u8) -> ExitCode {
     if status == REFUSED {
         if let Ok(Some(spot)) = refused_at(rt.alloc(), file) {
-            let _ = eprintln!(rt; "{path}: {spot}");
+            let _ = eprintln!(rt; "error: {path}: invalid plan at {spot}");
         }
     }
     ExitCode::from(status)
 }
 
-/// Tells what becomes of frames for the reserved addresses.
+/// Prints how frames for reserved group addresses are handled. Returns the exit status.
 fn show(rt: &impl Print) -> ExitCode {
     match run_show(&mut io::writer(rt)) {
         Err(fault) => tell(rt, fault),
@@ -281,7 +288,7 @@ fn show(rt: &impl Print) -> ExitCode {
     }
 }
 
-/// Prints a plan file to begin with.
+/// Prints a starter plan. Returns the exit status.
 fn init(rt: &(impl Print + AllocGlobal), options: InitOptions) -> ExitCode {
     let topology = match options {
         InitOptions::Line(bridges) => Topology::Line(bridges),

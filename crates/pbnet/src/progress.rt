@@ -1,4 +1,4 @@
-//! What is reported of a network while it runs, and when it is stopped.
+//! The progress of `run`, and the stop after `--seconds`.
 
 use pb_cmd_run::{Opening, RunProgress, Traffic};
 use pb_lan::Place;
@@ -8,40 +8,40 @@ use std::sync::Arc;
 use std::sync::atomic::{AtomicU64, Ordering};
 use std::time::{Clock, Duration};
 
-/// The first bridge's worker looks at the clock once in so many turns.
+/// The turns of the worker of the first bridge between two looks at the clock.
 const LOOK: u64 = 64;
 
-/// How it is told on standard error how far a run is.
+/// How the progress of a run is reported on standard error.
 #[derive(Clone, Copy, PartialEq, Eq)]
 pub enum Shown {
-    /// It isn't.
+    /// Not at all.
     Never,
-    /// On one line, which is written anew once a second.
+    /// On one line, which is overwritten once a second.
     OneLine,
-    /// By a line a second.
+    /// On a new line each second.
     Lines,
 }
 
-/// Reports the progress of a run once a second. As a gate it lets every worker go on until the run is to be stopped.
+/// Reports the progress of a run once a second, and stops the run after its seconds. It is the gate of the workers.
 #[derive(Drop)]
 pub struct RunMonitor<'a, R> {
     rt: &'a R,
     traffic: Arc<Traffic, Global>,
     shown: Shown,
-    /// The time of the monotonic clock at which the run is stopped. None: it isn't.
+    /// The time of the monotonic clock at which the run is stopped. None: no limit.
     end: Option<Duration>,
     second: AtomicU64,
     lines: AtomicU64,
 }
 
-/// The time so many seconds from now. None where there are no seconds, or the clock can't be read.
+/// Returns the time so many seconds from now. None without seconds, or if the clock cannot be read.
 fn end_of<R: Clock>(rt: &R, seconds: Option<u32>) -> Option<Duration> {
     let seconds = Duration::from_secs(u64::from(seconds?));
     rt.monotonic().ok()?.checked_add(seconds)
 }
 
 impl<'a, R: Clock + Eprint> RunMonitor<'a, R> {
-    /// Creates the monitor of a run that begins now and is stopped after so many seconds, if any are given.
+    /// Creates the monitor of a run that begins now and is stopped after these seconds, if any.
     pub fn new(
         rt: &'a R,
         traffic: Arc<Traffic, Global>,
@@ -62,7 +62,7 @@ impl<'a, R: Clock + Eprint> RunMonitor<'a, R> {
         }
     }
 
-    /// Looks at the clock: tells how far the run is where another second has begun, and answers whether it goes on.
+    /// Reads the clock. Reports progress if another second has begun. Returns whether the run continues.
     fn look(&self) -> Go {
         let Ok(now) = self.rt.monotonic() else {
             return Go::Go;
@@ -77,7 +77,7 @@ impl<'a, R: Clock + Eprint> RunMonitor<'a, R> {
         }
     }
 
-    /// Tells how many frames have entered and left, how many copies found no room, and how often clocks have ticked.
+    /// Reports how many frames entered and left, how many copies could not be queued, and the ticks of the clock.
     fn show(&self) {
         let (entered, left) = (self.traffic.entered(), self.traffic.left());
         let (refused, ticks) = (self.traffic.refused(), self.traffic.ticks());
@@ -99,6 +99,7 @@ impl<'a, R: Clock + Eprint> RunMonitor<'a, R> {
 }
 
 impl<R: Clock + Eprint + Sync> Gate for RunMonitor<'_, R> {
+    /// Returns whether a worker takes its next turn. Only the worker of the first bridge reads the clock.
     fn pass(&self, place: Place, turn: u64) -> Go {
         if turn % LOOK == 0 && place == Place::Bridge(1) {
             return self.look();
@@ -108,18 +109,20 @@ impl<R: Clock + Eprint + Sync> Gate for RunMonitor<'_, R> {
 }
 
 impl<R: Clock + Eprint + Sync> RunProgress for RunMonitor<'_, R> {
-    /// Tells it, on a line of its own.
+    /// Reports on a line of its own why frames enter now.
     fn open(&self, opening: Opening) {
         self.close();
         let _ = match opening {
-            Opening::Settled(ticks) => eprintln!(self.rt; "bridges settled after {ticks} ticks"),
+            Opening::Settled(ticks) => eprintln!(self.rt; "bridges converged after {ticks} ticks"),
             Opening::Unsettled(ticks) => {
-                eprintln!(self.rt; "bridges not settled after {ticks} ticks: frames enter")
+                eprintln!(self.rt;
+                    "warning: bridges not converged after {ticks} ticks: frames enter now"
+                )
             }
         };
     }
 
-    /// Ends the line, where one was written anew.
+    /// Ends the line of the progress, if one was written.
     fn close(&self) {
         if self.lines.swap(0, Ordering::SeqCst) != 0 {
             let _ = eprintln!(self.rt; "");

@@ -13,7 +13,7 @@ use std::process::ExitCode;
 use std::thread::Threads;
 use std::time::Clock;
 
-/// Returns which services the options ask for.
+/// Returns the services that are analysed.
 fn scope_of(scope: &SurviveScope) -> Scope<'_> {
     match scope {
         SurviveScope::All => Scope::All,
@@ -22,8 +22,8 @@ fn scope_of(scope: &SurviveScope) -> Scope<'_> {
     }
 }
 
-/// Tells what is left of the network of a plan file under failures, in the form that is asked for, and how many were
-/// looked at so far where that is shown.
+/// Fails the links of the network of a plan file in turn and prints the report, in the form of the options. Shows
+/// progress on standard error if `is_shown`. Returns the exit status.
 pub(crate) fn tell_survivals<R: Files + Threads + Clock + Print + Eprint + AllocGlobal + Sync>(
     rt: &R,
     options: &SurviveOptions,
@@ -34,7 +34,7 @@ pub(crate) fn tell_survivals<R: Files + Threads + Clock + Print + Eprint + Alloc
     out.end(&SURVIVE, Some(&FAILURES), status)
 }
 
-/// Tells what is left of the network of a plan file under failures.
+/// Writes the report on the network of a plan file under failures. Returns the exit status.
 fn tell_survivals_on<R, W: Write>(
     rt: &R,
     options: &SurviveOptions,

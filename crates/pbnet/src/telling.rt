@@ -1,4 +1,4 @@
-//! What is told of faults, and the exit statuses that go with it.
+//! Prints faults, and returns their exit statuses.
 
 ghost use Rattle.std.specs.Prelude.{◌≡◌};
 ghost use Rattle.std.specs.Process.{exit_status};
@@ -10,11 +10,11 @@ use std::process::ExitCode;
 /// The exit status if the arguments of the command line are refused.
 pub(crate) const WRONG_ARGUMENTS: u8 = 2;
 
-/// The exit status of a command that a fault ended.
+/// The exit status after a line `fault:`.
 pub(crate) const FAULT: u8 = 3;
 
-/// Says on standard output which fault ended a command, as `fault: ` and its word, and gives the exit status for it. A
-/// write that fails is not told.
+/// Prints the line `fault: WORD` on standard output, and returns the exit status 3. If the write fails, nothing reports
+/// that.
 pub(crate) fn tell(rt: &impl Print, fault: impl Display + Drop) -> ExitCode
     ensures { exit_status result ≡ 3 }
 {
@@ -22,7 +22,8 @@ pub(crate) fn tell(rt: &impl Print, fault: impl Display + Drop) -> ExitCode
     ExitCode::from(FAULT)
 }
 
-/// Says which fault ended a command where its report goes, as [`tell`] does on standard output.
+/// Writes the line `fault: WORD` to the writer of the report, and returns the exit status 3. If the write fails,
+/// nothing reports that.
 pub(crate) fn tell_on<W: Write>(out: &mut W, fault: impl Display + Drop) -> ExitCode
     ensures { exit_status result ≡ 3 }
 {

@@ -1,4 +1,4 @@
-//! Where frames go in the network of a plan file.
+//! The command `trace`.
 
 use crate::formatted::Output;
 use crate::telling::{WRONG_ARGUMENTS, tell_on};
@@ -13,6 +13,10 @@ use std::io::Write;
 use std::process::ExitCode;
 
 /// Returns the frames of the options.
+///
+/// # Errors
+///
+/// `AllocError` if an allocation failed.
 fn entries_of(alloc: Global, given: &[TraceEntry]) -> Result<Vec<Entry>, AllocError> {
     let mut entries = Vec::with_capacity(alloc, given.len())?;
     for entry in given {
@@ -23,7 +27,7 @@ fn entries_of(alloc: Global, given: &[TraceEntry]) -> Result<Vec<Entry>, AllocEr
     Ok(entries)
 }
 
-/// Prints where frames go in the network of a plan file, in the form that is asked for.
+/// Traces frames through the network of a plan file, in the form of the options. Returns the exit status.
 pub(crate) fn trace<R: Files + Print + Eprint + AllocGlobal>(
     rt: &R,
     options: &TraceOptions,
@@ -33,7 +37,7 @@ pub(crate) fn trace<R: Files + Print + Eprint + AllocGlobal>(
     out.end(&TRACE, None, status)
 }
 
-/// Prints where frames go in the network of a plan file.
+/// Writes the trace of frames through the network of a plan file. Returns the exit status.
 fn trace_on<R: Files + Eprint + AllocGlobal, W: Write>(
     rt: &R,
     options: &TraceOptions,
@@ -62,20 +66,35 @@ fn trace_on<R: Files + Eprint + AllocGlobal, W: Write>(
     }
 }
 
-/// Says that the plan lacks a customer port.
+/// Returns the arguments of the frame with this index, as the help names them. The first frame has arguments of its own.
+fn given_by(index: usize, first: &'static str) -> &'static str {
+    if index == 0 {
+        first
+    } else {
+        "--then <PORT> <HEX>"
+    }
+}
+
+/// Reports that the plan lacks the customer port of a frame. Returns the exit status 2.
 fn no_port(rt: &impl Eprint, entries: &[Entry], index: usize) -> ExitCode {
     if let Some(entry) = entries.get(index) {
         let port = entry.port.as_str();
-        let _ = eprintln!(rt; "error: the plan has no customer port {port}");
+        let argument = given_by(index, "<PORT>");
+        let _ = eprintln!(rt;
+            "error: invalid value '{port}' for '{argument}': no such customer port"
+        );
     }
     ExitCode::from(WRONG_ARGUMENTS)
 }
 
-/// Says that digits are no frame.
+/// Reports that the digits of a frame are invalid. Returns the exit status 2.
 fn no_frame(rt: &impl Eprint, entries: &[Entry], index: usize) -> ExitCode {
     if let Some(entry) = entries.get(index) {
         let hex = entry.hex.as_str();
-        let _ = eprintln!(rt; "error: '{hex}' is no frame: pairs of hexadecimal digits are");
+        let argument = given_by(index, "<HEX>");
+        let _ = eprintln!(rt;
+            "error: invalid value '{hex}' for '{argument}': not pairs of hexadecimal digits"
+        );
     }
     ExitCode::from(WRONG_ARGUMENTS)
 }

@@ -1,4 +1,4 @@
-//! The trees of the network of a plan file.
+//! The command `tree`.
 
 use crate::formatted::Output;
 use crate::telling::{WRONG_ARGUMENTS, tell_on};
@@ -10,7 +10,7 @@ use std::fs::Files;
 use std::io::Write;
 use std::process::ExitCode;
 
-/// Prints the trees of the network of a plan file, in the form that is asked for.
+/// Prints the spanning trees of the network of a plan file, in the form of the options. Returns the exit status.
 pub(crate) fn tree<R: Files + Print + Eprint + AllocGlobal>(
     rt: &R,
     options: &TreeOptions,
@@ -20,7 +20,7 @@ pub(crate) fn tree<R: Files + Print + Eprint + AllocGlobal>(
     out.end(&TREE, None, status)
 }
 
-/// Prints the trees of the network of a plan file.
+/// Writes the spanning trees of the network of a plan file. Returns the exit status.
 fn tree_on<R: Files + Eprint + AllocGlobal, W: Write>(
     rt: &R,
     options: &TreeOptions,
@@ -40,10 +40,12 @@ fn tree_on<R: Files + Eprint + AllocGlobal, W: Write>(
     }
 }
 
-/// Reports that a `--down` names no port to another bridge.
+/// Reports that a `--down` names no port between bridges. Returns the exit status 2.
 fn unnamed(rt: &impl Eprint, downs: &[String], index: usize) -> ExitCode {
     if let Some(down) = downs.get(index) {
-        let _ = eprintln!(rt; "error: --down {down} names no port to another bridge");
+        let _ = eprintln!(rt;
+            "error: invalid value '{down}' for '--down <BRIDGE:PORT>': no such port between bridges"
+        );
     }
     ExitCode::from(WRONG_ARGUMENTS)
 }

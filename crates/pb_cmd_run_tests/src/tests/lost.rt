@@ -84,7 +84,7 @@ type Lost = (u32, Result<Option<bool>, Memory>, &'static str);
 const LOST: &[Lost] = &[
     (0, Ok(Some(true)), ""),
     (0, Ok(None), ""),
-    (0, Ok(Some(false)), "bridges not settled\n"),
+    (0, Ok(Some(false)), "bridges not converged\n"),
     (
         2,
         Err(Memory),
@@ -93,7 +93,7 @@ const LOST: &[Lost] = &[
     (
         1,
         Ok(Some(false)),
-        "bridge B1 port 3: 1 copies not queued: full\nbridges not settled\n",
+        "bridge B1 port 3: 1 copies not queued: full\nbridges not converged\n",
     ),
 ];
 

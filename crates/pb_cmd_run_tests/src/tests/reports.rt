@@ -83,7 +83,7 @@ const EVENTS: &[(Row, &str)] = &[
             report: "ended drained\nport C1 entered 3 left 0 filtered 0\nport C2 entered 0 left 0 filtered 0\n\
                 port C3 entered 0 left 0 filtered 0\nlink L1 ab taken 0 lost 0 ba taken 0 lost 0\nforest yes\n",
         },
-        "1 event has not come\n",
+        "warning: 1 event did not take place\n",
     ),
     (
         Row {
@@ -96,7 +96,7 @@ const EVENTS: &[(Row, &str)] = &[
             report: "ended drained\nport C1 entered 3 left 0 filtered 0\nport C2 entered 0 left 2 filtered 0\n\
                 port C3 entered 0 left 2 filtered 0\nlink L1 ab taken 3 lost 1 ba taken 0 lost 0\nforest yes\n",
         },
-        "2 events have not come\n",
+        "warning: 2 events did not take place\n",
     ),
 ];
 
@@ -122,7 +122,7 @@ const UNSETTLED: Row = Row {
 
 #[test]
 fn bridges_that_have_not_settled_are_told(rt: HostRuntime) -> Result<(), Fail> {
-    let remarks = "bridges not settled\n";
+    let remarks = "bridges not converged\n";
     check_under(&rt, rt.alloc(), &UNSETTLED, Strictness::Lenient, remarks)
 }
 
@@ -144,7 +144,7 @@ fn strict_runs_have_a_status_of_their_own(rt: HostRuntime) -> Result<(), Fail> {
         check_under(&rt, rt.alloc(), &row, Strictness::Strict, "")?;
     }
     let row = strictly(&UNSETTLED, 4);
-    let remarks = "bridges not settled\n";
+    let remarks = "bridges not converged\n";
     check_under(&rt, rt.alloc(), &row, Strictness::Strict, remarks)
 }
 

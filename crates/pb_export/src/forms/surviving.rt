@@ -23,7 +23,7 @@ const SETTLED: &[Choice] = choices![
 const SURVIVES: &[Choice] = choices![("every single failure", Said::Yes),];
 
 /// Some failures disconnect a service.
-const PARTS: &[Choice] = choices![(" failures part a service", Said::No),];
+const PARTS: &[Choice] = choices![(" failures disconnect a service", Said::No),];
 
 /// The network with nothing down.
 const CALM: &[Slot] = slots![
@@ -87,7 +87,7 @@ const QUIET: &[Slot] = slots![
     (
         "failures_tried",
         Kind::Number,
-        " failures part nothing, ticks at most "
+        " failures disconnect nothing, ticks at most "
     ),
     ("most_ticks", Kind::Number, ""),
 ];

@@ -1,22 +1,22 @@
 //! The example of `init`, as in its file.
 
 /// Two bridges in a line.
-pub(super) const INIT: &str = r#"# A plan for pbnet. With this in a file FILE,
+pub(super) const INIT: &str = r#"# A starter plan for pbnet. If this is the file FILE,
 #
-#   pbnet check FILE   tells what the plan has, or which rule it breaks;
-#   pbnet run FILE     runs the network, and reports what entered and left;
-#   pbnet step FILE    drives it event by event, by lines of standard input.
+#   pbnet check FILE   validates the plan, and reports forwarding loops;
+#   pbnet run FILE     runs the network, and counts the frames that enter and leave;
+#   pbnet step FILE    drives the network event by event from a script on standard input.
 #
-# docs/PLAN_FILE.md has every key. A # right before a key or a table may be taken away, to try it.
+# docs/PLAN_FILE.md describes every key. Remove a # directly before a key or a table to use it.
 
 [network]
-# The links form no ring, so each port between bridges forwards from the start. With these keys
-# the bridges find a spanning tree (RSTP) first:
+# The links form no loop: each port between bridges is forwarding from the start. With these keys
+# the bridges compute a spanning tree (RSTP) first:
 #spanning = "rstp"
 #tick_ms = 10
 #hold = 200
 
-# The bridges, each with ports 1 to 16 and an address, and the links between them.
+# The bridges, each with an address and the ports 1 to 16, and the links between them.
 
 [[bridge]]
 name = "B1"
@@ -33,20 +33,20 @@ a_port = 1
 b = "B2"
 b_port = 2
 
-# A service is a network of its own: what enters one of its customer ports leaves the others, and no
-# port of another service. Between bridges its frames have an S-tag with this VID, 1 to 4094.
+# A service connects customer ports: a frame that enters one of them can leave only the others of this
+# service. Between bridges its frames have an S-tag with this VID, 1 to 4094.
 [[service]]
 name = "red"
 vid = 100
 
-# The customer ports, each at a port of a bridge.
+# The customer ports. Each is a port of a bridge.
 
 [[port]]
 name = "C1"
 bridge = "B1"
 port = 3
 service = "red"
-# The frames that come in here, in hexadecimal digits: one broadcast (to, from, type, data).
+# The frames that enter here, in hexadecimal digits: one broadcast (destination, source, type, data).
 in = ["ffffffffffff02000000010108004142"]
 
 [[port]]
@@ -55,8 +55,8 @@ bridge = "B2"
 port = 3
 service = "red"
 
-# Ports of other kinds: one reads frames from a capture file (pcap) and writes to another, one is at
-# a Unix socket. The file to read has to be there, and a peer has to listen at the socket.
+# Ports of other kinds: a capture port reads frames from one file (pcap) and writes to another, and a
+# socket port exchanges frames over a Unix socket. The file to read must exist, and a peer must listen.
 
 #[[port]]
 #name = "capture"
