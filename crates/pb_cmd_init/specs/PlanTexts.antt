@@ -27,6 +27,7 @@ fixed_text =
     codes "# The links form no loop: each port between bridges is forwarding from the start. With these keys\n"
     ++ codes "# the bridges compute a spanning tree (RSTP) first:\n"
     ++ codes "#spanning = \"rstp\"\n"
+    ++ codes "#prompt = true\n"
     ++ codes "#tick_ms = 10\n"
     ++ codes "#hold = 200\n"
 
@@ -35,6 +36,8 @@ abbrev pub rstp_text : List ℕ
 rstp_text =
     codes "# The links form a loop. The spanning tree (RSTP) opens it: no frame circulates.\n"
     ++ codes "spanning = \"rstp\"\n"
+    ++ codes "# A bridge sends its BPDUs as soon as its tree changes, and not with the next hello.\n"
+    ++ codes "prompt = true\n"
     ++ codes "# The clock: a tick represents a second of the standard, and takes 10 milliseconds here. A\n"
     ++ codes "# large ring on a busy machine needs more.\n"
     ++ codes "tick_ms = 10\n"

@@ -24,6 +24,7 @@ const FIXED: &str = "\
 # The links form no loop: each port between bridges is forwarding from the start. With these keys\n\
 # the bridges compute a spanning tree (RSTP) first:\n\
 #spanning = \"rstp\"\n\
+#prompt = true\n\
 #tick_ms = 10\n\
 #hold = 200\n";
 
@@ -31,6 +32,8 @@ const FIXED: &str = "\
 const RSTP: &str = "\
 # The links form a loop. The spanning tree (RSTP) opens it: no frame circulates.\n\
 spanning = \"rstp\"\n\
+# A bridge sends its BPDUs as soon as its tree changes, and not with the next hello.\n\
+prompt = true\n\
 # The clock: a tick represents a second of the standard, and takes 10 milliseconds here. A\n\
 # large ring on a busy machine needs more.\n\
 tick_ms = 10\n\

@@ -80,6 +80,7 @@ pub const FAILOVER: &str =
 
 [network]
 spanning = "rstp"
+prompt = true
 
 [[bridge]]
 name = "B1"

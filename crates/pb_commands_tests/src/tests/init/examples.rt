@@ -13,6 +13,7 @@ pub(super) const INIT: &str = r#"# A starter plan for pbnet. If this is the file
 # The links form no loop: each port between bridges is forwarding from the start. With these keys
 # the bridges compute a spanning tree (RSTP) first:
 #spanning = "rstp"
+#prompt = true
 #tick_ms = 10
 #hold = 200
 
