@@ -18,7 +18,7 @@ pub(super) struct Outside {
     pub(super) last: Option<Last>,
     /// The number of frames that entered or remain, if they are the script's from its beginning on.
     pub(super) script: Option<usize>,
-    /// The number of frames that left, and of those that could not, because the port took none any more.
+    /// The number of frames that left, and of those that could not, because the port was gone.
     pub(super) left: usize,
     pub(super) gone: usize,
     /// The number of frames that the port keeps, sent or not.
@@ -162,7 +162,7 @@ fn short(bridges: &[Seq<Step>]) -> usize {
     short
 }
 
-/// Returns how many frames could not leave by the steps of a customer port, because it took none any more.
+/// Returns how many frames could not leave by the steps of a customer port, because the port was gone.
 fn gone(steps: &[Step]) -> usize {
     let mut gone = 0usize;
     for step in steps {
