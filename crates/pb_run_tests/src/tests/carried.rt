@@ -66,7 +66,7 @@ fn has_counted(counted: &Told, told: &Told) -> bool {
         && counted.passed == told.passed
 }
 
-/// Checks whether the run drains as the row says, both if it keeps its steps and if it only counts them.
+/// Checks that the run drains as the row says, both if it keeps its steps and if it only counts them.
 fn drains<R: Abort + Threads + Wait + Clock + Sync>(
     rt: &R,
     alloc: Global,
