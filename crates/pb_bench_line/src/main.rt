@@ -16,6 +16,7 @@ use pb_net::{Did, Net};
 use std::alloc::Global;
 use std::env;
 
+/// Reads the arguments, drives the line, and prints how many frames were delivered.
 fn main(rt: HostRuntime) -> Result<()> {
     let mut words = env::args(&rt)?;
     let (Some(_), Some(bridges), Some(frames)) = (words.next(), words.next(), words.next()) else {

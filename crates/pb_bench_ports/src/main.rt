@@ -14,6 +14,7 @@ use std::fs::File;
 /// The number of frames that wait before they are written.
 const CAPACITY: u16 = 4_096;
 
+/// Reads the arguments, copies the capture, and prints how many frames it has.
 fn main(rt: HostRuntime) -> Result<()> {
     let mut words = env::args(&rt)?;
     let (Some(_), Some(input), Some(output)) = (words.next(), words.next(), words.next()) else {

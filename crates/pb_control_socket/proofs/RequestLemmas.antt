@@ -11,14 +11,14 @@ use Rattle.pb_control_socket.specs.declared.request.Request.TheVariants.{Stop, C
 use Rattle.pb_control_socket.specs.declared.request.Refused.{Refused}
 use Rattle.pb_control_socket.specs.declared.request.Refused.TheVariants.{NoSuch, Bad}
 
--- the first argument is neither `up` nor `down`
+-- a line whose first argument is neither `up` nor `down` sets no port
 pub no_way : (plan : Plan) (line word words : List ℕ) → cut line ≡ Some (word, words)
     → ((up : Bool) → word ≡ way_word up → ⊥)
     → (bridge port : ℕ) (up : Bool) → AsksToSet plan line bridge port up → ⊥
 no_way plan line word words parts none bridge port up w =
     none up (sym (same_parts (way_word up) w.words word words (sym w.parts ∙ parts)).0)
 
--- the arguments after it are no name and port
+-- a line whose other arguments are no bridge and port sets no port
 pub no_port : (plan : Plan) (line word words : List ℕ) → cut line ≡ Some (word, words)
     → ((bridge port : ℕ) → IsBridgePort plan words bridge port → ⊥)
     → (bridge port : ℕ) (up : Bool) → AsksToSet plan line bridge port up → ⊥

@@ -31,7 +31,7 @@ nothing_in_hand steps is_kept gone come Nothing h e = refl
 nothing_in_hand steps is_kept gone come (At place) h e = let one = one-left gone come h.1 h.3 in cc
 nothing_in_hand steps is_kept gone come (This item) h e = let one = one-left gone come item h.1 in cc
 
--- the item in hand by value is the one that came and has not gone
+-- the item in hand is the one that came and has not gone
 pub whole_by : (steps : List Step) (is_kept : Bool) (gone come : List Item) (hand : Holding) (item : Item)
     → IsHand steps is_kept gone come hand
     → held steps hand ≡ Some item → gone ++ item ∷ [] ≡ come

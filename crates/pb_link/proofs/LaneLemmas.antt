@@ -18,7 +18,7 @@ use Rattle.pb_link.specs.declared.holding.Holding.TheVariants.{Nothing, At, This
 use Rattle.pb_link.proofs.HandLemmas.{nothing_in_hand, hand-new}
 use Rattle.pb_link.proofs.HandLemmas.{whole_by}
 
--- items with rising numbers stay so with one more item of the next number
+-- items that are counted stay counted with one more item of the next number
 counted-more : (losses : List ℕ) (n : ℕ) (ts : List Taken) (t : Taken) → AreCounted losses n ts
     → t.number ≡ n + length ts → t.lost ≡ list_any (λ k. k == n + length ts) losses
     → AreCounted losses n (ts ++ t ∷ [])

@@ -17,7 +17,7 @@ use Rattle.pb_link.specs.declared.holding.Holding.{Holding}
 use Rattle.pb_link.specs.declared.holding.Holding.TheVariants.{Nothing}
 use Rattle.pb_link.proofs.HandLemmas.{nothing_in_hand, hand-kept, hand-new}
 
--- marked items stay so with one more item of the next mark
+-- items that are marked stay marked with one more item of the next mark
 marked-more : (port n : ℕ) (items : List Item) (item : Item) → AreMarked port n items
     → item.mark ≡ Some (record { port = port; number = n + length items }) → item.hops ≡ 0
     → AreMarked port n (items ++ item ∷ [])

@@ -187,6 +187,10 @@ impl CustomerPlace {
     }
 
     /// Returns a copy of the frame in hand. It shares the octets of the frame.
+    ///
+    /// # Errors
+    ///
+    /// `Memory` if the allocation failed.
     fn copy_in_hand(&self) -> Result<Item, Memory>
         requires { is_hand_empty self.now.steps ≡ false }
         ensures { IfOk result (IsInHand self.now.steps) }

@@ -9,15 +9,12 @@ use std::mem::replace;
 
 /// The item that came to a place and has not gone on.
 #[derive(Drop)]
-/// No item.
 pub(crate) enum Holding {
-    /// None.
-    /// The item of the step at this index of the list. Steps are kept.
+    /// No item.
     Nothing,
-    /// That of the step at this place of the list, where steps are kept.
-    /// This item, held by value. Steps are only counted.
+    /// The item of the step at this index of the list. Steps are kept.
     At(usize),
-    /// This one, where steps are only counted.
+    /// This item, held by value. Steps are only counted.
     This(Item),
 }
 

@@ -243,6 +243,10 @@ impl Lane {
     }
 
     /// Returns a copy of the item in hand. It shares the octets of the item.
+    ///
+    /// # Errors
+    ///
+    /// `Memory` if the allocation failed.
     fn copy_in_hand(&self) -> Result<Item, Memory>
         requires { is_hand_empty self.now.steps ≡ false }
         ensures { IfOk result (λ item. in_hand self.now.steps ≡ Some item) }

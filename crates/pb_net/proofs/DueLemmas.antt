@@ -93,7 +93,7 @@ out_at plan rec ins outs b q s kept at = rw (sym at.of_bridge, sym at.of_port) (
 pub due_here : {net : NetView} {event : Event} (s : Inside) → shown s ≡ net → IsDue net event → IsDue (shown s) event
 due_here {event = event} s view due = subst (λ (v : NetView). IsDue v event) (sym view) due
 
--- an event of a place at a spot is due exactly if the tests are those of the event
+-- the sifted result for a place at a spot says whether the event is due, if the tests are those of the event
 pub due_is : {X : Type 0} {net : NetView} {s : Inside} {steps : X → List Step} {places : List X} {number : ℕ}
     {IsSpot : Spot → Type 0} {spot : Spot} {x : X} {idle : Bool}
     → StandsAt s steps places number IsSpot spot x → (event : Event) (result : Result (Option Spot) NetFault)

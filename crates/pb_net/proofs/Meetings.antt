@@ -26,7 +26,7 @@ use Rattle.pb_net.proofs.Found.{number_of-cases}
 use Rattle.pb_net.proofs.Lanes.{lane_to-is, lane_from-is, ends_at-end, begins_at-end}
 use Rattle.pb_net.proofs.OneMore.{steps_of-set_other}
 
--- the customer port found at a port of the plan is the one planned there
+-- a planned customer port is the one that is found at its local port
 pub customer_there-is : (plan : Plan) → IsSound plan → (n : ℕ) (c : CustomerPlan) → numbered plan.customers n ≡ Some c
     → customer_there plan c.bridge c.port ≡ n
 customer_there-is plan sound n c at =

@@ -24,7 +24,7 @@ use Rattle.pb_net.proofs.Meetings.{elsewhere}
 use Rattle.pb_net.proofs.OneMore.{items_at-set_other, steps_of-set_same}
 use Rattle.pb_net.proofs.OneMore.{one_more-kept, moved_on, moved_in}
 
--- `Sends` if nothing was sent and nothing fetched
+-- `Sends` and `Fetches` if nothing was sent and nothing fetched
 pub sends-nothing : (plan : Plan) (rec rec' : Record) (ins : List (List Item))
     → ((m : ℕ) → fed (steps_of rec'.customers m) ≡ fed (steps_of rec.customers m))
     → ((m : ℕ) → put (steps_of rec'.lanes m) ≡ put (steps_of rec.lanes m)) → Sends plan rec rec' ins ins
@@ -40,7 +40,7 @@ fetches-nothing plan rec rec' outs customers lanes = λ s whole e. ap (λ z. z +
     (customers (customer_there plan (bridge_of s) (port_of s)))
     (λ _ _. lanes (lane_from plan (bridge_of s) (port_of s)))) ∙ e
 
--- `Sends` if one item was sent to one port, or fetched from one
+-- `Sends` and `Fetches` if one item was sent to one port, or fetched from one
 pub sends-one : (plan : Plan) (rec rec' : Record) (ins : List (List Item)) (s b q : ℕ) (item : Item)
     (inbox : List Item)
     → IsSlot plan b q s → slice_get ins s ≡ Some inbox → sent_to plan rec' b q ≡ sent_to plan rec b q ++ item ∷ []

@@ -46,7 +46,7 @@ first_spot plan bridge r number there = record {
   slot = record { of_bridge = omega (arith, number); of_port = omega arith; within = omega (arith, there) };
 }
 
--- a used port has numbers in range
+-- a port with numbers out of range is not used
 used_in_range : (plan : Plan) → IsSound plan → (b q : ℕ) → (IsNumber b (length plan.bridges) → IsNumber q 16 → ⊥)
     → port_at plan b q ≡ Unused
 used_in_range plan sound b q out = by (port_at plan b q) refl

@@ -14,6 +14,10 @@ use pb_lan::{Event, Place};
 
 impl Net {
     /// Polls a frame at a customer port.
+    ///
+    /// # Errors
+    ///
+    /// Those of [`step`](Net::step). The network is unchanged then.
     pub(crate) fn poll(&mut self, port: u8, frame: Bytes) -> Result<Did, NetFault>
         ensures { IsAnswer self.old (Event.Poll port frame) result self.new }
     {
@@ -25,6 +29,10 @@ impl Net {
     }
 
     /// Feeds the frame in a customer port's hand to its bridge.
+    ///
+    /// # Errors
+    ///
+    /// Those of [`step`](Net::step). The network is unchanged then.
     fn feed(&mut self, port: u8) -> Result<Did, NetFault>
         ensures { IsAnswer self.old (Event.Feed port) result self.new }
     {
@@ -39,6 +47,10 @@ impl Net {
     }
 
     /// Delivers the oldest frame that the bridge sent to a customer port.
+    ///
+    /// # Errors
+    ///
+    /// Those of [`step`](Net::step). The network is unchanged then.
     fn deliver(&mut self, port: u8) -> Result<Did, NetFault>
         ensures { IsAnswer self.old (Event.Deliver port) result self.new }
     {
@@ -53,6 +65,10 @@ impl Net {
     }
 
     /// Receives the oldest item that came to a bridge's port.
+    ///
+    /// # Errors
+    ///
+    /// Those of [`step`](Net::step). The network is unchanged then.
     fn receive(&mut self, bridge: u8, port: u8) -> Result<Did, NetFault>
         ensures { IsAnswer self.old (Event.Receive bridge port) result self.new }
     {
@@ -65,6 +81,10 @@ impl Net {
     }
 
     /// Transmits the next item of a bridge's port.
+    ///
+    /// # Errors
+    ///
+    /// Those of [`step`](Net::step). The network is unchanged then.
     fn transmit(&mut self, bridge: u8, port: u8) -> Result<Did, NetFault>
         ensures { IsAnswer self.old (Event.Transmit bridge port) result self.new }
     {
@@ -77,6 +97,10 @@ impl Net {
     }
 
     /// Advances a bridge's clock by one tick.
+    ///
+    /// # Errors
+    ///
+    /// Those of [`step`](Net::step). The network is unchanged then.
     fn tick(&mut self, bridge: u8) -> Result<Did, NetFault>
         ensures { IsAnswer self.old (Event.Tick bridge) result self.new }
     {
@@ -88,6 +112,10 @@ impl Net {
     }
 
     /// Enables or disables a bridge's port to another bridge.
+    ///
+    /// # Errors
+    ///
+    /// Those of [`step`](Net::step). The network is unchanged then.
     fn admin(&mut self, bridge: u8, port: u8, up: bool) -> Result<Did, NetFault>
         ensures { IsAnswer self.old (Event.Admin bridge port up) result self.new }
     {
@@ -99,6 +127,10 @@ impl Net {
     }
 
     /// Takes the oldest item that was sent to a lane.
+    ///
+    /// # Errors
+    ///
+    /// Those of [`step`](Net::step). The network is unchanged then.
     fn take(&mut self, lane: u8) -> Result<Did, NetFault>
         ensures { IsAnswer self.old (Event.Take lane) result self.new }
     {
@@ -110,6 +142,10 @@ impl Net {
     }
 
     /// Puts the item in a lane's hand before the far bridge.
+    ///
+    /// # Errors
+    ///
+    /// Those of [`step`](Net::step). The network is unchanged then.
     fn put(&mut self, lane: u8) -> Result<Did, NetFault>
         ensures { IsAnswer self.old (Event.Put lane) result self.new }
     {
@@ -121,6 +157,10 @@ impl Net {
     }
 
     /// Polls a copy of the caller's frame at a customer port.
+    ///
+    /// # Errors
+    ///
+    /// Those of [`step`](Net::step). The network is unchanged then.
     fn poll_copy(&mut self, port: u8, frame: &Bytes) -> Result<Did, NetFault>
         ensures { IsAnswer self.old (Event.Poll port frame.now) result self.new }
     {
@@ -131,6 +171,10 @@ impl Net {
     }
 
     /// Performs an event, of which the caller keeps the frame.
+    ///
+    /// # Errors
+    ///
+    /// Those of [`step`](Net::step). The network is unchanged then.
     pub(crate) fn act(&mut self, event: &Event) -> Result<Did, NetFault>
         ensures { IsAnswer self.old event.now result self.new }
     {

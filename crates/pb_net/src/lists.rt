@@ -11,8 +11,11 @@ use pb_relay::Bridge;
 /// Empty lists with capacity for each place. They let `Net::finish` gather the record without an allocation.
 #[derive(Drop)]
 pub(crate) struct Lists {
+    /// The list for each bridge.
     pub bridges: Vec<Seq<Step>>,
+    /// The list for each lane.
     pub lanes: Vec<Seq<Step>>,
+    /// The list for each customer port.
     pub customers: Vec<Seq<Step>>,
 }
 

@@ -40,17 +40,25 @@ use std::marker::Model;
 /// ```
 #[derive(Drop)]
 pub struct Net {
+    /// The plan.
     pub(crate) plan: Plan,
+    /// The greatest number of steps of a place, as the plan says.
     pub(crate) limit: u64,
+    /// The greatest number of items in a queue between two places, as the plan says.
     pub(crate) ring: usize,
+    /// The bridges, in the plan's order.
     pub(crate) bridges: Vec<Bridge>,
+    /// The lanes: that from a to b of each link, and the one back.
     pub(crate) lanes: Vec<Lane>,
+    /// The customer ports, in the plan's order.
     pub(crate) customers: Vec<CustomerPlace>,
     /// By slot, the items that were sent to the bridge's port and not yet received.
     pub(crate) inboxes: Vec<VecDeque<Item>>,
     /// By slot, the items that the bridge transmitted at the port and nobody fetched yet.
     pub(crate) outboxes: Vec<VecDeque<Item>>,
+    /// The neighbours at the bridges' ports, and the slots of lanes and customer ports.
     pub(crate) slots: Slots,
+    /// The lists for the record.
     pub(crate) lists: Lists,
 }
 

@@ -1,4 +1,4 @@
-//! The queues at the bridges' ports, by slot.
+//! The slots of the bridges' ports, and the neighbour at each.
 
 /// The neighbour at a local port of a bridge.
 #[derive(Clone, Copy, Debug)]

@@ -22,6 +22,10 @@ use std::alloc::Global;
 use std::collections::VecDeque;
 
 /// Returns the bridges of a plan, none of which has taken a step.
+///
+/// # Errors
+///
+/// `Memory` if an allocation failed.
 fn fresh_bridges(alloc: Global, plan: &Plan) -> Result<Vec<Bridge>, Memory>
     requires { IsSound plan.now }
     ensures { IfOk result (λ bridges. AreFreshBridges plan.now (length plan.now.bridges) bridges.items) }
@@ -34,6 +38,10 @@ fn fresh_bridges(alloc: Global, plan: &Plan) -> Result<Vec<Bridge>, Memory>
 }
 
 /// Returns a lane that loses the items of these numbers, and has taken no step.
+///
+/// # Errors
+///
+/// `Memory` if an allocation failed.
 fn fresh_lane(alloc: Global, losses: &Seq<u64>) -> Result<Lane, Memory>
     requires { Rises losses.now }
     ensures { IfOk result (λ lane. lane ≡ fresh_lane losses.now) }
@@ -42,6 +50,10 @@ fn fresh_lane(alloc: Global, losses: &Seq<u64>) -> Result<Lane, Memory>
 }
 
 /// Returns the lanes of a plan, two to a link, none of which has taken a step.
+///
+/// # Errors
+///
+/// `Memory` if an allocation failed.
 fn fresh_lanes(alloc: Global, plan: &Plan) -> Result<Vec<Lane>, Memory>
     requires { IsSound plan.now }
     ensures { IfOk result (λ lanes. AreFreshLanes plan.now (2 * length plan.now.links) lanes.items) }
@@ -56,6 +68,10 @@ fn fresh_lanes(alloc: Global, plan: &Plan) -> Result<Vec<Lane>, Memory>
 }
 
 /// Returns `count` customer ports, none of which has taken a step.
+///
+/// # Errors
+///
+/// `Memory` if an allocation failed.
 fn fresh_customers(alloc: Global, count: usize) -> Result<Vec<CustomerPlace>, Memory>
     requires { count < 256 }
     ensures { IfOk result (λ customers. AreFreshCustomers count customers.items) }
@@ -68,6 +84,10 @@ fn fresh_customers(alloc: Global, count: usize) -> Result<Vec<CustomerPlace>, Me
 }
 
 /// Returns `count` empty queues.
+///
+/// # Errors
+///
+/// `Memory` if an allocation failed.
 fn empty_boxes(alloc: Global, count: usize) -> Result<Vec<VecDeque<Item>>, Memory>
     ensures { IfOk result (λ boxes. AreEmptyBoxes count boxes.items) }
 {
@@ -109,6 +129,10 @@ fn use_at(plan: &Plan, bridge: u8, port: u8) -> PortUse
 }
 
 /// Returns the neighbour of each slot.
+///
+/// # Errors
+///
+/// `Memory` if an allocation failed.
 fn uses(alloc: Global, plan: &Plan) -> Result<Vec<PortUse>, Memory>
     requires { IsSound plan.now }
     ensures { IfOk result (λ uses. AreUses plan.now (16 * length plan.now.bridges) uses.items) }
@@ -139,6 +163,10 @@ fn slot_of_end(end: &End) -> usize
 }
 
 /// Returns the slots at which each lane begins and ends.
+///
+/// # Errors
+///
+/// `Memory` if an allocation failed.
 fn lane_slots(alloc: Global, plan: &Plan) -> Result<Vec<LaneSlots>, Memory>
     requires { IsSound plan.now }
     ensures { IfOk result (λ slots. AreLaneSlots plan.now (2 * length plan.now.links) slots.items) }
@@ -154,6 +182,10 @@ fn lane_slots(alloc: Global, plan: &Plan) -> Result<Vec<LaneSlots>, Memory>
 }
 
 /// Returns the slot of each customer port.
+///
+/// # Errors
+///
+/// `Memory` if an allocation failed.
 fn customer_slots(alloc: Global, plan: &Plan) -> Result<Vec<usize>, Memory>
     requires { IsSound plan.now }
     ensures { IfOk result (λ slots. AreCustomerSlots plan.now (length plan.now.customers) slots.items) }
@@ -167,6 +199,10 @@ fn customer_slots(alloc: Global, plan: &Plan) -> Result<Vec<usize>, Memory>
 }
 
 /// Returns the tables of the plan's slots.
+///
+/// # Errors
+///
+/// `Memory` if an allocation failed.
 fn slots_of(alloc: Global, plan: &Plan) -> Result<Slots, Memory>
     requires { IsSound plan.now }
     ensures { IfOk result (AreTables plan.now) }
@@ -179,6 +215,10 @@ fn slots_of(alloc: Global, plan: &Plan) -> Result<Slots, Memory>
 }
 
 /// Allocates the lists of the record.
+///
+/// # Errors
+///
+/// `Memory` if an allocation failed.
 fn empty_lists(alloc: Global, plan: &Plan) -> Result<Lists, Memory>
     requires { length plan.now.links < 256 }
     ensures { IfOk result (AreEmpty (length plan.now.bridges) (2 * length plan.now.links) (length plan.now.customers)) }

@@ -1,4 +1,4 @@
-//! Runs of pb_port with ample memory.
+//! Tests of pb_port with ample memory. The library is empty.
 #![tactic(auto)]
 
 #[cfg(test)]

@@ -73,13 +73,13 @@ lanes_more plan k link gifts one two at are is_one is_two =
     kept : (n : ℕ) (g : LaneGift) → slice_get gifts n ≡ Some g → slice_get ((gifts ++ one ∷ []) ++ two ∷ []) n ≡ Some g
     kept n g h = slice_get-front (gifts ++ one ∷ []) (two ∷ []) n g (slice_get-front gifts (one ∷ []) n g h)
 
--- the ends of a link
+-- the ends of a link of a sound plan are sound
 pub link_ends : (plan : Plan) (k : ℕ) (link : LinkPlan) → IsSound plan → slice_get plan.links k ≡ Some link
     → IsSoundEnd plan link.a × IsSoundEnd plan link.b
 link_ends plan k link sound at =
     (sound-end plan sound (suc k) link link.a at (inl refl), sound-end plan sound (suc k) link link.b at (inr refl))
 
--- the local port of a customer port
+-- a customer port of a sound plan is sound
 pub customer_stands : (plan : Plan) (k : ℕ) (c : CustomerPlan) → IsSound plan → slice_get plan.customers k ≡ Some c
     → IsSoundCustomer plan c
 customer_stands plan k c sound at = All-at (IsSoundCustomer plan) plan.customers k c at sound.customers

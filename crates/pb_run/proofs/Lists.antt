@@ -115,7 +115,7 @@ there_more {X} Q xs ys x e each here n o h =
 pub all_front : {X : Type 0} → (P : X → Type 0) (x : X) (xs ys : List X) → ys ≡ x ∷ xs → P x → All P xs → All P ys
 all_front P x xs ys e p h = All-same P ys (x ∷ xs) e (All-cons P x xs p h)
 
--- two lists of equal length, each extended by one
+-- two lists of equal length still have equal length when each is extended by one
 pub counted_more : {X Y : Type 0} (xs : List X) (x : X) (ys zs : List Y) (y : Y) → zs ≡ ys ++ y ∷ []
     → length ys ≡ length xs → length zs ≡ length (xs ++ x ∷ [])
 counted_more xs x ys zs y e same = omega (arith, ap length e, length-append ys (y ∷ []), length-append xs (x ∷ []))

@@ -17,7 +17,7 @@ pub(crate) struct Agenda {
     come: AtomicU64,
 }
 
-/// Returns the wish of the event after the first `come`, if the bridge's clock has ticked `at` times or more.
+/// Returns the wish of the event after the first `come`, if the bridge's clock has ticked as often as the event says.
 fn wish_due(events: &[PortEvent], come: u64, now: u32) -> Option<Wish>
     ensures { result ≡ wish_due events.now come now }
 {

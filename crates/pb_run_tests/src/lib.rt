@@ -1,7 +1,5 @@
-//! Runs of workers over whole plans.
-//!
-//! The library itself has nothing: all stands in its tests. Each test is a table of rows, each a run and what has
-//! to come of it, and one harness goes through them. Each run ends by itself, whatever the schedule.
+//! Tests of workers over whole plans. The library is empty. Each test is a table of runs with their expected results,
+//! and one harness performs them. Each run ends by itself, whatever the schedule.
 #![tactic(auto)]
 
 #[cfg(test)]

@@ -2,7 +2,6 @@
 
 use crate::words::Words;
 
-/// How much a worker takes or gives back at once.
 /// The amount that a worker takes or gives back at once.
 const PART: u64 = 64;
 

@@ -151,7 +151,7 @@ impl<W: Wiring, P: Port> CustomerWorker<W, P> {
         }
     }
 
-    /// Delivers, feeds, or polls if frames may enter: the first that has something to do.
+    /// Takes the first step that is due: delivers, feeds, or polls if frames may enter.
     fn step(&mut self, may_enter: bool) -> Turn
         requires { IsPortKept P.script P.tally self.old }
         ensures port { IsPortKept P.script P.tally self.new }

@@ -1,4 +1,4 @@
-//! What lines are answered.
+//! The replies to lines.
 
 ghost use Rattle.pb_lan.specs.Plans.{IsSound};
 
@@ -11,17 +11,17 @@ use std::alloc::Global;
 use std::process::Abort;
 use std::test::Fail;
 
-/// A line is read, answered and done as wanted.
+/// The result of a line that is read, performed and replied to as expected.
 const AS_WANTED: (bool, bool, bool) = (true, true, true);
 
-/// A line, and what it asks for, or why it asks for nothing.
+/// A line, and its request, or the reason why it has none.
 type Row = (&'static str, Result<Request, Refused>);
 
 const NO_SUCH: Result<Request, Refused> = Err(Refused::NoSuch);
 
 const BAD: Result<Request, Refused> = Err(Refused::Bad);
 
-/// Lines that ask for something, and lines of that form.
+/// Lines with a request, and lines of that form.
 const ASKING: &[Row] = &[
     ("stop", Ok(Request::Stop)),
     ("counts", Ok(Request::Counts)),
@@ -56,7 +56,7 @@ const ASKING: &[Row] = &[
     ("up abcdefghijklmnopqrstuvwxyz-_0189 2", NO_SUCH),
 ];
 
-/// Lines that ask for nothing.
+/// Lines without a request.
 const WRONG: &[&str] = &[
     "",
     " ",
@@ -95,7 +95,7 @@ const WRONG: &[&str] = &[
     "\0",
 ];
 
-/// The answer to a line.
+/// Returns the reply to a line.
 fn reply(read: Result<Request, Refused>) -> &'static str {
     match read {
         Ok(Request::Counts) => COUNTS,
@@ -106,7 +106,7 @@ fn reply(read: Result<Request, Refused>) -> &'static str {
     }
 }
 
-/// Whether the board was asked for this, and for nothing else.
+/// Checks whether exactly this request was made of the board.
 fn has_done(board: &Fake, read: Result<Request, Refused>) -> bool {
     match read {
         Ok(Request::Counts | Request::Tree) | Err(_) => board.has_done(&[]),
@@ -114,7 +114,7 @@ fn has_done(board: &Fake, read: Result<Request, Refused>) -> bool {
     }
 }
 
-/// Whether a line is read, answered behind what stood there, and done as wanted.
+/// Checks whether a line is read, performed and replied to as expected, with the reply after the text.
 fn comes_of(
     alloc: Global,
     plan: &Plan,
@@ -131,7 +131,7 @@ fn comes_of(
     Ok((is_read, is_answered, has_done(&board, want)))
 }
 
-/// The lines of both tables are read, answered and done as they tell.
+/// Checks that the lines of both tables are read, performed and replied to as they say.
 fn are_answered(rt: &impl Abort, alloc: Global, plan: &Plan) -> Result<(), Fail>
     requires { IsSound plan.now }
 {

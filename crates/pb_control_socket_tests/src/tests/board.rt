@@ -1,4 +1,4 @@
-//! A board that notes what it is asked for.
+//! A board that notes its requests.
 
 use pb_control_socket::{Board, Request};
 use pb_lan::PortState;
@@ -7,21 +7,21 @@ use pb_threads::PortView;
 use std::alloc::Global;
 use std::cell::RefCell;
 
-/// Notes what it is asked for, and tells counts by which a port or a bridge is known.
+/// A board that notes its requests, and returns counts that identify a port or a bridge.
 #[derive(Drop)]
 pub(super) struct Fake {
     asked: RefCell<Vec<Request>>,
 }
 
 impl Fake {
-    /// It was asked for nothing yet.
+    /// Returns a board without requests.
     pub(super) fn new(alloc: Global) -> Fake {
         Fake {
             asked: RefCell::new(Vec::new(alloc)),
         }
     }
 
-    /// Whether it was asked for these, in this order, and for nothing else.
+    /// Checks whether exactly these requests were made, in this order.
     pub(super) fn has_done(&self, wanted: &[Request]) -> bool {
         match self.asked.try_borrow() {
             Ok(asked) => asked.as_slice() == wanted,

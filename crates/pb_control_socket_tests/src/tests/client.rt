@@ -1,4 +1,4 @@
-//! The client of the control socket, with what the socket answers.
+//! The client of the control socket, with the replies of the socket.
 
 ghost use Rattle.pb_lan.specs.Plans.{IsSound};
 
@@ -18,7 +18,7 @@ use std::net::Net;
 use std::process::Abort;
 use std::test::Fail;
 
-/// A reader of these octets, which gives one a call.
+/// Returns a reader of these octets, which returns one per call.
 fn one_by_one(octets: &[u8]) -> Slow<'_> {
     Slow {
         rest: octets,
@@ -42,7 +42,7 @@ const CONVERSATIONS: &[Row] = &[
     ("down west 2\n\nstop\n", 4),
 ];
 
-/// Returns what a new peer of the socket hears once it has sent these lines.
+/// Returns the replies to a new peer of the socket that has sent these lines.
 fn heard_of(
     rt: &impl Net,
     alloc: Global,
@@ -69,7 +69,7 @@ fn heard_of(
     }
 }
 
-/// Returns whether a conversation ends with this status, after each line was sent and each answer printed as it came.
+/// Checks whether a conversation ends with this status, after each line was sent and each reply printed as it came.
 fn ends_with(alloc: Global, lines: &str, answers: &[u8], status: u8) -> bool {
     let (mut sent, mut printed) = (Vec::new(alloc), Vec::new(alloc));
     let mut input = one_by_one(lines.as_bytes());
@@ -103,7 +103,7 @@ fn each_command_gets_its_answer(rt: HostRuntime) -> Result<(), Fail> {
     Ok(leave(&rt, rt.process())?)
 }
 
-/// What the client sends of a line of so many octets, and gets `bad` for.
+/// Checks how many octets of a long line the client sends. The reply is `bad`.
 #[test]
 fn of_a_long_line_one_octet_more_than_the_limit_is_sent(rt: HostRuntime) -> Result<(), Fail> {
     let line = b"a".repeat(rt.alloc(), 300)?;
@@ -116,7 +116,7 @@ fn of_a_long_line_one_octet_more_than_the_limit_is_sent(rt: HostRuntime) -> Resu
     Ok(())
 }
 
-/// A conversation of two commands whose answers are these, and what comes of it and is printed.
+/// The replies of a conversation of two commands, its fault, and the output.
 type Cut = (&'static str, ControlFault, &'static str);
 
 const CUT_OFF: &[Cut] = &[
@@ -174,7 +174,7 @@ fn faults_name_what_failed(rt: HostRuntime) -> Result<(), Fail> {
     Ok(())
 }
 
-/// Returns whether these arguments give these lines.
+/// Checks whether these arguments give these lines.
 fn gives(alloc: Global, arguments: &[&str], lines: &str) -> Result<bool, AllocError> {
     let mut words = Vec::new(alloc);
     for argument in arguments {
@@ -183,7 +183,7 @@ fn gives(alloc: Global, arguments: &[&str], lines: &str) -> Result<bool, AllocEr
     Ok(command_lines(alloc, words.as_slice())?.as_slice() == lines.as_bytes())
 }
 
-/// The arguments of each row give its lines.
+/// Checks that the arguments of each row give its lines.
 fn all_give(rt: &impl Abort, alloc: Global, rows: &[(&[&str], &str)]) -> Result<(), Fail> {
     for (arguments, lines) in rows {
         assert!(rt; gives(alloc, arguments, lines)?, "{arguments:?}");

@@ -14,7 +14,7 @@ use std::{fs, io};
 /// The socket's path.
 const PATH: &str = "control.sock";
 
-/// Why no socket can be made at a path.
+/// Returns the reason why no socket can be opened at a path.
 fn refusal<R: Files + Net>(rt: &R, alloc: Global, path: &str) -> Option<ErrorKind> {
     match Control::open(rt, alloc, path) {
         Ok(_) => None,
@@ -22,28 +22,28 @@ fn refusal<R: Files + Net>(rt: &R, alloc: Global, path: &str) -> Option<ErrorKin
     }
 }
 
-/// Nothing stands at the path.
+/// Checks whether no file is at the path.
 fn is_free(rt: &impl Files) -> bool {
     fs::symlink_metadata(rt, PATH).is_err()
 }
 
-/// Somebody listens at the path.
+/// Checks whether somebody listens at the path.
 fn is_heard(rt: &impl Net) -> bool {
     UnixStream::connect(rt, PATH).is_ok()
 }
 
-/// What any thread may have: a run attends to its socket in whichever thread comes by.
+/// Returns a value that any thread may have: a run serves its socket in several threads.
 fn for_any_thread<T: Send>(it: T) -> T {
     it
 }
 
-/// Whether a socket stands at the path, and its mode.
+/// Returns whether a socket is at the path, and its mode.
 fn node(rt: &impl Files) -> io::Result<(bool, u32)> {
     let metadata = fs::symlink_metadata(rt, PATH)?;
     Ok((metadata.file_type().is_socket(), metadata.mode() & 0o7777))
 }
 
-/// A socket is made and closed. Answers what stood at the path meanwhile, and whether it is free then.
+/// Opens and closes a socket. Returns what was at the path meanwhile, and whether the path is free then.
 fn made_and_closed<R: Files + Net>(rt: &R, alloc: Global) -> io::Result<((bool, u32), bool)> {
     let control = for_any_thread(Control::open(rt, alloc, PATH)?);
     let node = node(rt);
@@ -51,7 +51,8 @@ fn made_and_closed<R: Files + Net>(rt: &R, alloc: Global) -> io::Result<((bool, 
     Ok((node?, is_free(rt)))
 }
 
-/// Somebody listens at the path. Answers why no socket can be made there, and whether he still is connected to.
+/// Opens a socket while somebody listens at the path. Returns the reason why that fails, and whether the listener still
+/// accepts peers.
 fn beside_a_live_one<R: Files + Net>(
     rt: &R,
     alloc: Global,
@@ -61,8 +62,8 @@ fn beside_a_live_one<R: Files + Net>(
     Ok((refusal, is_heard(rt) && listener.accept().is_ok()))
 }
 
-/// A socket is made where one stands whose listener is gone. Answers whether the path was free before, whether it is
-/// connected to, and whether the path is free once it is closed.
+/// Opens a socket in place of one whose listener is gone. Returns whether the path was free before, whether peers can
+/// connect, and whether the path is free after the socket is closed.
 fn in_place_of_a_stale_one<R: Files + Net>(
     rt: &R,
     alloc: Global,
@@ -74,7 +75,7 @@ fn in_place_of_a_stale_one<R: Files + Net>(
     Ok((was_free, is_heard, is_free(rt)))
 }
 
-/// A socket is closed once a text file stands in its place.
+/// Closes a socket after a text file has taken its place.
 fn closed_too_late<R: Files + Net>(rt: &R, alloc: Global) -> io::Result<()> {
     let control = Control::open(rt, alloc, PATH)?;
     let is_written = fs::remove_file(rt, PATH).and(fs::write(rt, PATH, "words"));
@@ -82,8 +83,8 @@ fn closed_too_late<R: Files + Net>(rt: &R, alloc: Global) -> io::Result<()> {
     is_written
 }
 
-/// A text file stands at the path. Answers why no socket can be made there, and whether its text is left. The file is
-/// removed then.
+/// Opens a socket while a text file is at the path. Returns the reason why that fails, and whether the text is
+/// unchanged. Removes the file.
 fn beside_a_file<R: Files + Net + AllocGlobal>(
     rt: &R,
     alloc: Global,
@@ -94,8 +95,8 @@ fn beside_a_file<R: Files + Net + AllocGlobal>(
     Ok((refusal, is_left))
 }
 
-/// A symbolic link stands at the path. Answers why no socket can be made there, and whether the path is free. The link
-/// is removed then.
+/// Opens a socket while a symbolic link is at the path. Returns the reason why that fails, and whether the path is
+/// free. Removes the link.
 fn beside_a_link<R: Files + Net>(rt: &R, alloc: Global) -> io::Result<(Option<ErrorKind>, bool)> {
     symlink(rt, "nowhere.sock", PATH)?;
     let seen = (refusal(rt, alloc, PATH), is_free(rt));
@@ -109,11 +110,11 @@ fn the_file_is_ours_alone(rt: HostRuntime) -> Result<(), Fail> {
     const EXISTS: Option<ErrorKind> = Some(ErrorKind::AlreadyExists);
     let alloc = rt.alloc();
     enter(&rt, rt.process())?;
-    // (a socket is made, only its owner may connect, and its file is removed at the end)
+    // (a socket is opened, only its owner may connect, and its file is removed at the end)
     assert!(rt; made_and_closed(&rt, alloc)? == ((true, 0o600), true));
     assert!(rt; beside_a_live_one(&rt, alloc)? == IN_USE);
     assert!(rt; in_place_of_a_stale_one(&rt, alloc)? == (false, true, true));
-    // (a file that is no socket is left as it is, and so is what stands there once ours is gone)
+    // (a file that is no socket is unchanged, and also one that took the place of our socket)
     closed_too_late(&rt, alloc)?;
     assert!(rt; beside_a_file(&rt, alloc)? == (EXISTS, true));
     assert!(rt; beside_a_link(&rt, alloc)? == (EXISTS, false));

@@ -1,4 +1,4 @@
-//! A folder for temporary files, which a test works in.
+//! A folder for temporary files in which a test works.
 
 use std::fs::Files;
 use std::path::PathBuf;
@@ -6,13 +6,14 @@ use std::process::Process;
 use std::rt::Env;
 use std::{env, fs, io, process};
 
-/// The folder of the process: its own, where the system keeps temporary files. Each test runs in a process of its own.
+/// Returns the folder of the process in the system's folder for temporary files. Each test runs in a process of its
+/// own.
 fn folder_of<R: Env + AllocGlobal>(rt: &R, process: Process) -> io::Result<PathBuf> {
     let name = format!(in rt.alloc(); "pb_control_socket_tests-{}", process::id(process))?;
     Ok(env::temp_dir(rt)?.join(rt.alloc(), name.as_str())?)
 }
 
-/// Makes the folder of the process, and goes there.
+/// Makes the folder of the process, and enters it.
 pub(super) fn enter<R: Env + Files + AllocGlobal>(rt: &R, process: Process) -> io::Result<()> {
     let folder = folder_of(rt, process)?;
     let _ = fs::remove_dir_all(rt, folder.as_path());

@@ -1,15 +1,15 @@
-//! Octets that come in pieces, and the lines in them.
+//! Octets that arrive in pieces, and the lines in them.
 
 use pb_control_socket::LineBuffer;
 use pb_frame::Memory;
 use std::alloc::Global;
 use std::test::Fail;
 
-/// The limit of the buffers here.
+/// The limit of the buffers of these tests.
 const LIMIT: usize = 4;
 
-/// Pieces that are put one after the other, and the lines that come, each ended by a `|`. Behind each piece stands a
-/// `,`.
+/// Pieces that are put one after the other, and the lines that are returned, each ended by a `|`. A `,` follows each
+/// piece.
 const ROWS: &[(&[&str], &str)] = &[
     (&[], ""),
     (&[""], ","),
@@ -29,7 +29,7 @@ const ROWS: &[(&[&str], &str)] = &[
     (&["abcdefghij\nabcdefghij\n"], "abcde|abcde|,"),
 ];
 
-/// Puts the lines that are whole behind a text, and says whether they came to an end and each was short enough.
+/// Appends the lines that are whole. Returns whether they came to an end and each was short enough.
 fn take(lines: &mut LineBuffer, out: &mut Vec<u8>) -> Result<bool, Memory> {
     for _ in 0..100u32 {
         let Some(line) = lines.next_line()? else {
@@ -45,7 +45,7 @@ fn take(lines: &mut LineBuffer, out: &mut Vec<u8>) -> Result<bool, Memory> {
     Ok(false)
 }
 
-/// Whether these lines come of pieces.
+/// Checks whether pieces give these lines.
 fn are_cut(alloc: Global, pieces: &[&str], want: &str) -> Result<bool, Memory> {
     let mut lines = LineBuffer::new(alloc, LIMIT);
     let mut out = Vec::new(alloc);

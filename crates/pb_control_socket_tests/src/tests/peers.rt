@@ -16,10 +16,10 @@ use std::process::{Abort, Process};
 use std::rt::Env;
 use std::test::Fail;
 
-/// What happens, step by step, with peers of its own.
+/// A list of actions with peers of its own.
 type Story = &'static [Action];
 
-/// All steps of some stories come to pass at a socket, one story after the other.
+/// Performs stories at a socket, one after the other, and checks each action.
 fn are_told<R: Abort + Net>(
     rt: &R,
     alloc: Global,
@@ -39,7 +39,7 @@ fn are_told<R: Abort + Net>(
     Ok(())
 }
 
-/// All steps of some stories come to pass at a socket in a folder of its own.
+/// Performs stories at a socket in a folder of its own.
 fn come_to_pass<R: Abort + Env + Files + Net + AllocGlobal>(
     rt: &R,
     alloc: Global,
@@ -57,7 +57,7 @@ fn come_to_pass<R: Abort + Env + Files + Net + AllocGlobal>(
 /// 256 octets that are no line.
 const LONG: &[u8] = &[b'a'; 256];
 
-/// A peer of each story's own sends lines, in pieces or whole, and hears the answers.
+/// A peer of each story sends lines, in pieces or whole, and hears the replies.
 const ANSWERED: &[Story] = &[
     &[Connects(First), HaveHeard("")],
     &[Connects(First), Says(First, b"stop\n"), HaveHeard("ok\n")],
@@ -105,7 +105,7 @@ fn peers_are_answered(rt: HostRuntime) -> Result<(), Fail> {
     come_to_pass(&rt, rt.alloc(), rt.process(), ANSWERED)
 }
 
-/// What a peer has sent is done before it is heard that it sends no more, and then it is hung up on.
+/// The lines of a peer are performed before the socket reads that it sends no more and disconnects it.
 const ANSWERS_THE_LAST: Story = &[
     Action::Connects(First),
     Action::Sends(First, b"down west 2\nstop\nstop", 1),
@@ -123,7 +123,7 @@ const ANSWERS_THE_LAST: Story = &[
     ]),
 ];
 
-/// A second peer is answered once the first has hung up.
+/// A second peer gets replies once the first has disconnected.
 const WAITS_ITS_TURN: Story = &[
     Action::Connects(First),
     Action::Says(First, b"up"),
@@ -138,7 +138,7 @@ const WAITS_ITS_TURN: Story = &[
     Action::HaveHeard("ok\nok\n"),
 ];
 
-/// A peer that hangs up before it has heard its answers makes room for the next.
+/// A peer that disconnects before it has heard its replies is dropped, and the next may connect.
 const OUTLIVES_A_PEER: Story = &[
     Action::Connects(First),
     Action::Sends(First, b"counts\n", 200),

@@ -1,4 +1,4 @@
-//! The network that the tests speak of.
+//! The network of the tests.
 
 ghost use Rattle.std.specs.Prelude.{IfOk};
 ghost use Rattle.pb_lan.specs.Plans.{IsSound};
@@ -8,7 +8,7 @@ use pb_service::read_plan;
 use std::alloc::Global;
 use std::test::Fail;
 
-/// Two bridges, a link between them, and three customer ports; none stand by name.
+/// Two bridges, a link between them, and three customer ports, none in the order of names.
 const PLAN: &str = "\
 bridge = [\n\
   { name = \"west\", address = \"02-00-00-00-00-01\" },\n\
@@ -23,7 +23,7 @@ port = [\n\
 ]\n\
 ";
 
-/// What `counts` is answered: capital letters stand in front of small ones.
+/// The reply to `counts`: capital letters come before small ones.
 pub(super) const COUNTS: &str = "\
 port Yard entered 102 left 18446744073709551613\n\
 port office entered 103 left 18446744073709551612\n\
@@ -33,7 +33,7 @@ bridge west refused 201 ticks 301\n\
 ok\n\
 ";
 
-/// The answer to `tree`.
+/// The reply to `tree`.
 pub(super) const TREE: &str = "\
 port east 1 root forwarding\n\
 port east 16 alternate discarding\n\
@@ -42,7 +42,7 @@ port west 16 learning\n\
 ok\n\
 ";
 
-/// The network's plan.
+/// Returns the network's plan.
 pub(super) fn plan(alloc: Global) -> Result<Plan, Fail>
     ensures { IfOk result (λ plan. IsSound plan) }
 {

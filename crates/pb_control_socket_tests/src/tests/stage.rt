@@ -1,4 +1,4 @@
-//! What happens between a control socket and its peers.
+//! The actions of a control socket and its peers.
 
 ghost use Rattle.pb_lan.specs.Plans.{IsSound};
 
@@ -22,34 +22,34 @@ pub(super) enum Who {
     Second,
 }
 
-/// An action of a peer or of the socket, or what is seen of it.
+/// An action of a peer or of the socket, or a check.
 #[derive(Clone, Copy)]
 pub(super) enum Action {
     /// A peer connects.
     Connects(Who),
-    /// It sends octets, the socket has its turns, and it hears what is answered; it is not hung up on.
+    /// A peer sends octets, the socket takes its turns, and the peer hears the reply. It is not disconnected.
     Says(Who, &'static [u8]),
-    /// It sends octets so many times, and the socket has no turn.
+    /// A peer sends octets this many times, and the socket takes no turn.
     Sends(Who, &'static [u8], u32),
-    /// It sends no more.
+    /// A peer sends no more.
     IsDone(Who),
-    /// The socket has one turn, and does something.
+    /// The socket takes one turn, and does something.
     Turns,
-    /// The socket has its turns.
+    /// The socket takes its turns.
     Settles,
-    /// A peer hears what was answered, and whether it is hung up on.
+    /// A peer hears the replies, and whether it is disconnected.
     Hears(Who, bool),
-    /// It hangs up.
+    /// A peer disconnects.
     HangsUp(Who),
-    /// All that both have heard by now.
+    /// All that both peers have heard so far.
     HaveHeard(&'static str),
-    /// All that the board was asked for by now.
+    /// All requests made of the board so far.
     IsAsked(&'static [Request]),
-    /// A peer asks for counts so many times. It is not read from while it takes no answer, and loses none.
+    /// A peer asks for counts this many times. Nothing is read from it while it takes no reply, and no reply is lost.
     Floods(Who, usize),
 }
 
-/// The streams of both peers, where they are connected.
+/// The streams of both peers, if they are connected.
 #[derive(Drop)]
 struct Peers {
     first: Option<UnixStream>,
@@ -65,7 +65,7 @@ impl Peers {
     }
 }
 
-/// Two peers, what they have heard, and the board that the socket asks.
+/// Two peers, the octets that they have heard, and the board of the socket.
 #[derive(Drop)]
 pub(super) struct Stage {
     alloc: Global,
@@ -75,7 +75,7 @@ pub(super) struct Stage {
 }
 
 impl Stage {
-    /// No peer is connected, and nothing has happened.
+    /// Returns a stage without peers, on which nothing has happened.
     pub(super) fn new(alloc: Global) -> Stage {
         Stage {
             alloc,

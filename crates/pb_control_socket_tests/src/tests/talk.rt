@@ -10,7 +10,7 @@ use pb_lan::Plan;
 use std::io::{ErrorKind, Read, Write};
 use std::test::Fail;
 
-/// Puts what has come behind a text, and says whether the other side has hung up.
+/// Appends what has come, and returns whether the other side has disconnected.
 pub(super) fn hear(stream: &mut UnixStream, heard: &mut Vec<u8>) -> Result<bool, Fail> {
     let mut octets = [0u8; 4096];
     for _ in 0..10_000u32 {
@@ -24,7 +24,7 @@ pub(super) fn hear(stream: &mut UnixStream, heard: &mut Vec<u8>) -> Result<bool,
     Err(Fail::from("no end"))
 }
 
-/// Takes turns until one has nothing to do, and says whether one had.
+/// Takes turns until one has nothing to do. Returns whether there was one.
 pub(super) fn settles(control: &mut Control, plan: &Plan, board: &Fake) -> bool
     requires { IsSound plan.now }
 {
@@ -36,8 +36,8 @@ pub(super) fn settles(control: &mut Control, plan: &Plan, board: &Fake) -> bool
     false
 }
 
-/// Sends octets, takes turns, and puts what is answered behind a text. Says whether the turns came to an end, and the
-/// other side has not hung up.
+/// Sends octets, takes turns, and appends the replies. Returns whether the turns came to an end and the other side has
+/// not disconnected.
 pub(super) fn talks(
     control: &mut Control,
     plan: &Plan,
@@ -52,7 +52,7 @@ pub(super) fn talks(
     Ok(settles(control, plan, board) && !hear(stream, heard)?)
 }
 
-/// Sends what is still taken of some octets, and answers what is left.
+/// Sends as many of these octets as are taken, and returns the remaining ones.
 fn send<'a>(stream: &mut UnixStream, octets: &'a [u8]) -> &'a [u8] {
     match stream.write(octets) {
         Ok(count) if count <= octets.len() => &octets[count..],
@@ -60,8 +60,8 @@ fn send<'a>(stream: &mut UnixStream, octets: &'a [u8]) -> &'a [u8] {
     }
 }
 
-/// Sends what is taken of some octets for a while, and hears nothing. Answers what is left, nothing where turns came
-/// to no end.
+/// Sends as many of these octets as are taken for a while, and hears nothing. Returns the remaining ones, or none if
+/// turns came to no end.
 fn sends_on<'a>(
     control: &mut Control,
     plan: &Plan,
@@ -81,8 +81,8 @@ fn sends_on<'a>(
     left
 }
 
-/// Sends octets and hears, until so many octets have come. Says whether turns came to an end meanwhile, and the other
-/// side did not hang up.
+/// Sends octets and hears replies, until `count` octets have come. Returns whether turns came to an end and the other
+/// side has not disconnected.
 fn hears_all(
     control: &mut Control,
     plan: &Plan,
@@ -107,8 +107,8 @@ fn hears_all(
     Ok(true)
 }
 
-/// Sends lines that ask for counts, and hears nothing until no more is taken; then hears. Says whether not all was
-/// taken before, and then all lines were answered.
+/// Sends lines that ask for counts, and hears nothing until no more are taken. Then hears. Returns whether not all were
+/// taken at first, and all were replied to in the end.
 pub(super) fn floods(
     control: &mut Control,
     plan: &Plan,

@@ -13,7 +13,7 @@ pub(super) fn is_sound(alloc: Global, draft: &Draft) -> Result<bool, AllocError>
     Ok(plan_is_sound(&plan))
 }
 
-/// Returns the plan of a draft is sound, or it is not.
+/// Checks that the plan of a draft is sound, or that it is not.
 pub(super) fn stands(
     rt: &impl Abort,
     alloc: Global,

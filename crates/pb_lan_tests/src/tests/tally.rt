@@ -124,7 +124,7 @@ const fn causes(full: u128, memory: u128) -> CauseCounts {
     CauseCounts { full, memory }
 }
 
-/// Returns the steps are counted.
+/// Checks that the steps are counted.
 fn are_counted(rt: &impl Abort, tally: &Tally) {
     assert_eq!(rt; tally.len(), 14);
     assert_eq!(rt; (tally.entered(), tally.left(), tally.gone()), (2, 1, 1));

@@ -232,7 +232,7 @@ fn unsound_customers(rt: HostRuntime) -> Result<(), Fail> {
     all_break(&rt, rt.alloc(), &ONE_CUSTOMER, ROWS)
 }
 
-/// Returns the plan of a draft is unsound with each of these ageing times, rooms between places and steps of a place.
+/// Checks that the plan of a draft is unsound with each of these ageing times, ring sizes and limits of steps.
 fn numbers_break(
     rt: &impl Abort,
     alloc: Global,

@@ -38,7 +38,7 @@ pub(super) fn crosses(net: &mut Net, draft: &Draft, lane: u8) -> bool {
     sent && does(net, Event::Receive { bridge, port })
 }
 
-/// Returns a bridge sends an item to a customer port, which delivers it.
+/// Lets a bridge transmit an item to a customer port, and the port deliver it. Returns whether each step was taken.
 pub(super) fn leaves(net: &mut Net, draft: &Draft, customer: u8) -> bool {
     let Some((bridge, port)) = draft.site_of(customer) else {
         return false;

@@ -1,4 +1,4 @@
-//! A port between bridges that is set down.
+//! A port between bridges that is disabled.
 
 use super::networks::{BROADCAST, JOINED};
 use super::rows::{Act, Deed, Fate, Row};

@@ -20,7 +20,7 @@ const CAPTURE: &[u8] = &[
 /// The frame of the capture.
 const FRAME: &[u8] = &[21, 22, 23, 24, 25, 26, 27, 28, 29, 30, 31, 32, 33, 34];
 
-/// Devices that give the capture, all or an octet a call.
+/// Devices that return the capture, all at once or an octet per call.
 const WHOLE: Manner = Manner {
     gives: CAPTURE,
     ..SINK
@@ -45,7 +45,7 @@ fn reads_a_capture(rt: HostRuntime) {
     check_all(&rt, rt.alloc(), READ);
 }
 
-/// What is told of the first octets of the capture: its one frame, and that it ends, or ends within a record.
+/// Returns the rows of the first octets of the capture: its one frame, and that it ends, or ends within a record.
 fn told_of(n: usize) -> &'static [Row] {
     match n {
         24 | 54 => &[Row::Tells(&[256])],
@@ -104,7 +104,7 @@ const HEADER: &[u8] = &[
     0xd4, 0xc3, 0xb2, 0xa1, 2, 0, 4, 0, 0, 0, 0, 0, 0, 0, 0, 0, 0xff, 0xff, 0, 0, 1, 0, 0, 0,
 ];
 
-/// Takes an octet a call.
+/// A device that takes an octet per call.
 const SLOW: Manner = Manner { step: 1, ..SINK };
 
 const WRITTEN_BY_ONE: &[Case] = &[Case {
@@ -133,7 +133,7 @@ fn writes_64_times_a_call(rt: HostRuntime) {
     check_all(&rt, rt.alloc(), WRITTEN_BY_ONE);
 }
 
-/// Takes all.
+/// A device that takes all.
 const WIDE: Manner = Manner {
     step: 100_000,
     ..SINK
@@ -162,7 +162,7 @@ fn writes_many_frames_a_call(rt: HostRuntime) {
     check_all(&rt, rt.alloc(), MANY);
 }
 
-/// A capture that has nothing but its header and one frame or fault, and what is told of it.
+/// A capture that has nothing but its header and one frame or fault, and its rows.
 type Told = (&'static [u8], &'static [Row]);
 
 /// Reads each of these captures.
@@ -235,7 +235,7 @@ fn tells_what_is_wrong(rt: HostRuntime) {
     check_told(&rt, rt.alloc(), WRONG);
 }
 
-/// Takes three octets every other call.
+/// A device that takes three octets in every other call.
 const SLOWER: Manner = Manner {
     step: 3,
     waits: true,
@@ -258,7 +258,7 @@ fn writes_a_capture(rt: HostRuntime) {
     check_all(&rt, rt.alloc(), WRITTEN);
 }
 
-/// Two frames on a scale of milliseconds, and what is written of them.
+/// Two frames on a scale of milliseconds, and the octets that are written of them.
 const ON_SCALE: &[Row] = &[
     Row::Offers(&[1, 2], Offered::Taken),
     Row::PumpsUntil(0, 1),
@@ -306,7 +306,7 @@ fn fails_at_each_read(rt: HostRuntime) {
     }
 }
 
-/// A capture of a frame, of which nothing is written but what stands before a write that fails.
+/// A capture of a frame, of which nothing is written but the octets before a write that fails.
 const BROKEN: &[Row] = &[
     Row::Offers(&[1, 2, 3], Offered::Taken),
     Row::Pumps(0, Pumped::Fault(PortFault::Write)),

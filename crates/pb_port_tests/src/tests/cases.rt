@@ -1,4 +1,4 @@
-//! Ports over devices, and what comes of them.
+//! Ports over devices, and their results.
 
 use super::device::{Fake, Hollow, Manner, Parts, SINK, Seen};
 use super::rows::{Row, walk};
@@ -6,33 +6,33 @@ use pb_port::{CapturePort, SocketPort};
 use std::alloc::Global;
 use std::process::Abort;
 
-/// What a port stands over.
+/// The devices of a port.
 #[derive(Clone, Copy)]
 pub(super) enum Devices {
-    /// A socket has one device both ways.
+    /// A socket, with one device for both directions.
     Socket(Manner),
-    /// The one that a capture reads. Nothing is done to the one that it writes.
+    /// A capture with this device to read. The device to write does nothing.
     Reader(Manner),
-    /// The one that a capture writes. Nothing is done to the one that it reads.
+    /// A capture with this device to write. The device to read does nothing.
     Writer(Manner),
 }
 
-/// A port, what is done with it, and what comes of that.
+/// A port, its rows, and its results.
 #[derive(Clone, Copy)]
 pub(super) struct Case<'a> {
     pub(super) devices: Devices,
-    /// How many frames may wait.
+    /// The number of frames that may wait.
     pub(super) capacity: u16,
     pub(super) rows: &'a [Row],
-    /// What is written.
+    /// The octets that are written.
     pub(super) wrote: Parts<'a>,
-    /// How many calls of its devices failed.
+    /// The number of calls of its devices that failed.
     pub(super) failures: u64,
-    /// How many records of a capture were skipped.
+    /// The number of records of a capture that were skipped.
     pub(super) skipped: u64,
 }
 
-/// Nothing is done with a port over a sink, and nothing comes of that.
+/// A port over a sink, without rows and results.
 pub(super) const NOTHING: Case = Case {
     devices: Devices::Socket(SINK),
     capacity: 4,
@@ -42,18 +42,18 @@ pub(super) const NOTHING: Case = Case {
     skipped: 0,
 };
 
-/// What came of a port.
+/// The results of a port.
 #[derive(Clone, Copy, PartialEq, Debug)]
 struct Came {
-    /// How many rows held.
+    /// The number of rows that held.
     rows: usize,
-    /// Whether what has to be written was written, and nothing else.
+    /// Whether exactly the expected octets were written.
     wrote: bool,
     failures: u64,
     skipped: u64,
 }
 
-/// What has to come of a case.
+/// Returns the expected results of a case.
 fn wanted(case: &Case) -> Came {
     Came {
         rows: case.rows.len(),
@@ -100,7 +100,7 @@ fn writer(alloc: Global, case: &Case, writer: Manner) -> Came {
     }
 }
 
-/// A case comes out as it says.
+/// Checks that a case has its results.
 pub(super) fn check(rt: &impl Abort, alloc: Global, number: usize, case: &Case) {
     let came = match case.devices {
         Devices::Socket(stream) => socket(alloc, case, stream),
@@ -110,7 +110,7 @@ pub(super) fn check(rt: &impl Abort, alloc: Global, number: usize, case: &Case) 
     assert_eq!(rt; came, wanted(case), "case {number}");
 }
 
-/// Each of these comes out so.
+/// Checks that each of these cases has its results.
 pub(super) fn check_all(rt: &impl Abort, alloc: Global, cases: &[Case]) {
     for (number, case) in cases.iter().enumerate() {
         check(rt, alloc, number, case);

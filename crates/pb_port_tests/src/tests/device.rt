@@ -1,23 +1,23 @@
-//! A device that moves a few octets a call, may wait every other call, and may fail at one of them.
+//! A device that moves a few octets per call, may wait in every other call, and may fail in one of them.
 
 ghost use Rattle.std.specs.Prelude.{◌≡◌};
 
 use pb_port::{Device, Got};
 use std::cell::Cell;
 
-/// What a device gives, and how.
+/// The octets of a device, and its manner.
 #[derive(Clone, Copy)]
 pub(super) struct Manner {
     pub(super) gives: &'static [u8],
-    /// How many octets it moves a call, 1 or more.
+    /// The number of octets that it moves per call, 1 or more.
     pub(super) step: usize,
-    /// Whether every other call waits.
+    /// Whether it waits in every other call.
     pub(super) waits: bool,
-    /// The call that fails, from 1. At 0 none does.
+    /// The call that fails, from 1, or 0 if none does.
     pub(super) fails_at: u64,
 }
 
-/// Nothing to read, and it takes as much as it is given.
+/// A device with nothing to read, which takes all that it is given.
 pub(super) const SINK: Manner = Manner {
     gives: &[],
     step: 1000,
@@ -25,10 +25,10 @@ pub(super) const SINK: Manner = Manner {
     fails_at: 0,
 };
 
-/// Octets in a row of parts, each of them so often.
+/// Octets as a row of parts, each with a number of repetitions.
 pub(super) type Parts<'a> = &'a [(usize, &'static [u8])];
 
-/// The octet at a place.
+/// Returns the octet at an index.
 fn octet_at(parts: Parts, place: usize) -> Option<u8> {
     let mut place = place;
     for (times, part) in parts {
@@ -41,25 +41,25 @@ fn octet_at(parts: Parts, place: usize) -> Option<u8> {
     None
 }
 
-/// What was done so far.
+/// The actions so far.
 #[derive(Clone, Copy)]
 struct Sight {
     calls: u64,
-    /// How many octets were written, and whether they were those that have to be.
+    /// The number of octets that were written, and whether they were the expected ones.
     written: usize,
     is_right: bool,
 }
 
-/// What devices are seen to do.
+/// The record of devices' actions.
 #[derive(Drop)]
 pub(super) struct Seen<'a> {
-    /// What has to be written.
+    /// The octets that have to be written.
     wanted: Parts<'a>,
     sight: Cell<Sight>,
 }
 
 impl<'a> Seen<'a> {
-    /// Nothing yet.
+    /// Returns an empty record.
     pub(super) fn new(wanted: Parts<'a>) -> Seen<'a> {
         let sight = Cell::new(Sight {
             calls: 0,
@@ -69,12 +69,12 @@ impl<'a> Seen<'a> {
         Seen { wanted, sight }
     }
 
-    /// How often they were called.
+    /// Returns how often the devices were called.
     pub(super) fn calls(&self) -> u64 {
         self.sight.get().calls
     }
 
-    /// Whether what has to be written was written, and nothing else.
+    /// Checks whether exactly the expected octets were written.
     pub(super) fn has_all(&self) -> bool {
         let sight = self.sight.get();
         sight.is_right && octet_at(self.wanted, sight.written).is_none()
@@ -99,7 +99,7 @@ impl<'a> Seen<'a> {
     }
 }
 
-/// The device. What it does is seen.
+/// A device, whose actions are recorded.
 #[derive(Drop)]
 pub(super) struct Fake<'a> {
     manner: Manner,
@@ -120,7 +120,7 @@ impl<'a> Fake<'a> {
         }
     }
 
-    /// Counts a call, and tells whether it is to wait.
+    /// Counts a call, and returns whether it has to wait.
     fn is_waiting(&mut self) -> bool
         ensures { self.new.failures ≡ self.old.failures }
     {

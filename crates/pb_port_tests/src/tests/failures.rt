@@ -1,4 +1,4 @@
-//! Ports whose devices fail, or take no more, in the middle of things.
+//! Ports whose devices fail, or take no more, in the middle of a frame.
 
 use super::cases::{Case, Devices, NOTHING, check, check_all};
 use super::device::{Manner, Parts, SINK};
@@ -7,13 +7,13 @@ use pb_port::{Offered, PortFault, Pumped};
 use std::alloc::Global;
 use std::process::Abort;
 
-/// Two frames as a socket has them, 0708 and 0910.
+/// Two frames as a socket carries them, 0708 and 0910.
 const TWO: &[u8] = &[0, 2, 7, 8, 0, 2, 9, 0x10];
 
-/// The call of a socket that fails, what then is said, and what is written.
+/// The call of a socket that fails, the rows after it, and the octets that are written.
 type Failing = (u64, &'static [Row], Parts<'static>);
 
-/// Sockets that give these octets and move so many a call come out as these rows say.
+/// Checks that sockets with these octets, which move `step` of them per call, have these rows.
 fn check_sockets(
     rt: &impl Abort,
     alloc: Global,
@@ -39,7 +39,7 @@ fn check_sockets(
     }
 }
 
-/// What is told of the two frames where the read of this number fails, of those that move an octet each.
+/// The rows of the two frames if the read of this number fails, of reads that move an octet each.
 const READS: &[Failing] = &[
     (1, NO_FRAME, &[]),
     (2, NO_FRAME, &[]),
@@ -75,7 +75,7 @@ fn a_socket_fails_at_each_read(rt: HostRuntime) {
     check_sockets(&rt, rt.alloc(), TWO, 1, READS);
 }
 
-/// What is said of the two frames, and what was written, where the write of this number fails, of those that move
+/// The rows of the two frames, and the octets that were written, if the write of this number fails, of writes that move
 /// an octet each.
 const WRITES: &[Failing] = &[
     (1, TWO_LEFT, &[]),
@@ -115,8 +115,8 @@ fn a_socket_fails_at_each_write(rt: HostRuntime) {
     check_sockets(&rt, rt.alloc(), &[], 1, WRITES);
 }
 
-/// What a port says that gives a frame and takes one, and what it writes, where the call of this number fails: the
-/// first two are reads and the third is a write. Neither way stops the other.
+/// The rows of a port that gives a frame and takes one, and the octets that it writes, if the call of this number
+/// fails: the first two are reads and the third is a write. Neither direction stops the other.
 const EACH_WAY: &[Failing] = &[
     (
         1,
@@ -209,7 +209,7 @@ const FAILS: Manner = Manner {
 
 const FAILS_CAPTURE: Manner = Manner { step: 42, ..FAILS };
 
-/// The same, but each second call takes nothing.
+/// Devices that take the octets of the first frame, and take nothing in each second call after it.
 const BLOCKS: Manner = Manner {
     step: 4,
     waits: true,
@@ -218,7 +218,7 @@ const BLOCKS: Manner = Manner {
 
 const BLOCKS_CAPTURE: Manner = Manner { step: 42, ..BLOCKS };
 
-/// The frame as a socket has it, and as a record of a capture at second 0, with the capture's header.
+/// The frame as a socket carries it, and as a record of a capture at second 0, with the capture's header.
 const LENGTH: &[u8] = &[0, 2, 7, 8];
 
 const HEADER: &[u8] = &[
@@ -261,7 +261,7 @@ fn frames_that_left_are_gone_though_a_later_write_does_not_pass(rt: HostRuntime)
     check_all(&rt, rt.alloc(), LATER);
 }
 
-/// A port that failed is put on its shelf, and each later pump still says that a write failed.
+/// A port that failed is put on its shelf, and each later pump still reports that a write failed.
 const SHELVED: &[Row] = &[
     Row::Offers(&[7, 8], Offered::Taken),
     Row::Pumps(0, Pumped::Fault(PortFault::Write)),

@@ -8,7 +8,7 @@ use std::collections::VecDeque;
 use std::process::Abort;
 use std::test::Fail;
 
-/// All rows hold of a port without a script.
+/// Checks that all rows hold of a port without a script.
 pub(super) fn check(rt: &impl Abort, alloc: Global, capacity: u16, rows: &[Row]) {
     let capacity = capacity.clamp(1, 4_096);
     let port = MemoryPort::new(alloc, capacity, VecDeque::new(alloc));
@@ -17,7 +17,7 @@ pub(super) fn check(rt: &impl Abort, alloc: Global, capacity: u16, rows: &[Row])
 
 const SCRIPT: &[Row] = &[Row::Tells(&[1, 2, 300, 3, 300, 256]), Row::Ends];
 
-/// The frames 0102 and 03.
+/// Returns the frames 0102 and 03.
 fn script(alloc: Global) -> Result<VecDeque<Bytes>, AllocError> {
     let (first, second) = (Bytes::from_static(&[1, 2]), Bytes::from_static(&[3]));
     Ok(VecDeque::from(vec![in alloc; first, second]?))

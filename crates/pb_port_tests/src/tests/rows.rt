@@ -1,4 +1,4 @@
-//! A port is walked through the rows of a table.
+//! The harness that walks a port through the rows of a table.
 
 ghost use Rattle.std.specs.Prelude.{◌≡◌, []};
 
@@ -8,44 +8,44 @@ use pb_port::{Offered, Polled, Port, PortFault, Pumped, Shelf};
 use std::alloc::Global;
 use std::collections::VecDeque;
 
-/// What is done with a port, or seen of it.
+/// A call of a port, or a check of it.
 #[derive(Clone, Copy)]
 pub(super) enum Row {
-    /// A frame is offered, and this said.
+    /// A frame is offered, with this result.
     Offers(&'static [u8], Offered),
-    /// A frame is offered so often, and taken each time.
+    /// A frame is offered this many times, and taken each time.
     Takes(u16, &'static [u8]),
-    /// A frame of so many octets 7 is offered, and taken.
+    /// A frame of this many octets 7 is offered, and taken.
     TakesLong(u16),
-    /// A pump at a time says this.
+    /// A pump at a time has this result.
     Pumps(u32, Pumped),
-    /// So many pumps at time 0, whatever they say.
+    /// This many pumps at time 0, with any result.
     PumpsOn(u8),
-    /// Of a hundred pumps at a time, the first after which a frame has left says that so many have.
+    /// Of a hundred pumps at a time, the first with which frames left reports this many.
     PumpsUntil(u32, u32),
     /// The next poll gives a frame.
     Gives(&'static [u8]),
-    /// It gives none yet.
+    /// The next poll gives no frame yet.
     Waits,
-    /// It comes to the end.
+    /// The next poll reports the end.
     Ends,
-    /// It returns a fault.
+    /// The next poll returns this fault.
     Faults(PortFault),
-    /// What is said of the stream from now on: the octets of its frames, each frame followed by 300, then 256 for
-    /// the end, or 256 and the fault's number.
+    /// The stream from here on: the octets of its frames, each frame followed by 300, then 256 for the end, or 256 plus
+    /// the fault's number.
     Tells(&'static [u16]),
-    /// So many frames wait.
+    /// This many frames wait.
     Unsent(usize),
-    /// Taken out of use it keeps these frames.
+    /// The port is taken out of use, and keeps these frames.
     Shelves {
         sent: &'static [&'static [u8]],
         unsent: &'static [&'static [u8]],
     },
-    /// Its devices have been called so often.
+    /// Its devices have been called this often.
     Calls(u64),
 }
 
-/// How many rows hold, one after the other, before the first that does not.
+/// Returns how many rows hold, one after the other, before the first that does not.
 pub(super) fn walk<P: Port>(alloc: Global, port: &mut P, seen: &Seen, rows: &[Row]) -> usize {
     for (place, row) in rows.iter().enumerate() {
         if !holds(alloc, port, seen, *row) {
@@ -55,13 +55,13 @@ pub(super) fn walk<P: Port>(alloc: Global, port: &mut P, seen: &Seen, rows: &[Ro
     rows.len()
 }
 
-/// How many rows hold of a port whose devices nobody looks at.
+/// Returns how many rows hold of a port whose devices are not checked.
 pub(super) fn held<P: Port>(alloc: Global, port: P, rows: &[Row]) -> usize {
     let (seen, mut port) = (Seen::new(&[]), port);
     walk(alloc, &mut port, &seen, rows)
 }
 
-/// Whether a row holds.
+/// Checks whether a row holds.
 fn holds<P: Port>(alloc: Global, port: &mut P, seen: &Seen, row: Row) -> bool {
     match row {
         Row::Offers(octets, wanted) => offers(port, octets, wanted),
@@ -109,7 +109,7 @@ fn pumps_on<P: Port>(port: &mut P, times: u8) -> bool {
     true
 }
 
-/// How many frames the first pump says that have left, of a hundred pumps at most.
+/// Returns how many frames left with the first pump that wrote any, of a hundred pumps at most.
 fn pumps_until<P: Port>(port: &mut P, now: u32) -> u32 {
     for _ in 0..100u8 {
         if let Pumped::Wrote(count) = port.pump(now) {
@@ -119,7 +119,7 @@ fn pumps_until<P: Port>(port: &mut P, now: u32) -> u32 {
     0
 }
 
-/// Whether the next poll says what a row tells.
+/// Checks whether the next poll has the result of a row.
 fn polls<P: Port>(port: &mut P, row: Row) -> bool {
     match (port.poll(), row) {
         (Polled::Frame(frame), Row::Gives(octets)) => frame.as_slice() == octets,
@@ -130,7 +130,7 @@ fn polls<P: Port>(port: &mut P, row: Row) -> bool {
     }
 }
 
-/// Whether this is told of a port's stream. A failed allocation is passed over, since no octet is lost by it.
+/// Checks whether a port's stream is this one. A failed allocation is ignored, because it loses no octet.
 fn tells<P: Port>(port: &mut P, told: &[u16]) -> bool {
     let mut at = 0usize;
     for _ in 0..2000u16 {
@@ -149,7 +149,7 @@ fn tells<P: Port>(port: &mut P, told: &[u16]) -> bool {
     false
 }
 
-/// Whether a frame is told at a place.
+/// Checks whether a frame is at an index of the stream.
 fn is_told(told: &[u16], at: usize, octets: &[u8]) -> bool {
     for (place, octet) in octets.iter().enumerate() {
         if told.get(at.saturating_add(place)).copied() != Some(u16::from(*octet)) {
@@ -159,7 +159,7 @@ fn is_told(told: &[u16], at: usize, octets: &[u8]) -> bool {
     told.get(at.saturating_add(octets.len())).copied() == Some(300)
 }
 
-/// Whether an ending is told at a place, and nothing behind it.
+/// Checks whether an ending is at an index of the stream, with nothing after it.
 fn is_last(told: &[u16], at: usize, ending: u16) -> bool {
     told.get(at).copied() == Some(ending) && told.len() == at.saturating_add(1)
 }
@@ -179,7 +179,7 @@ fn shelves<P: Port>(alloc: Global, port: &mut P, sent: &[&[u8]], unsent: &[&[u8]
     were_sent(&home.sent, sent) && are_unsent(&home.unsent, unsent)
 }
 
-/// Whether these frames were sent.
+/// Checks whether these frames were sent.
 fn were_sent(frames: &[Bytes], wanted: &[&[u8]]) -> bool {
     for (place, octets) in wanted.iter().enumerate() {
         match frames.get(place) {
@@ -190,7 +190,7 @@ fn were_sent(frames: &[Bytes], wanted: &[&[u8]]) -> bool {
     frames.len() == wanted.len()
 }
 
-/// Whether these frames wait.
+/// Checks whether these frames wait.
 fn are_unsent(frames: &VecDeque<Bytes>, wanted: &[&[u8]]) -> bool {
     for (place, octets) in wanted.iter().enumerate() {
         match frames.get(place) {

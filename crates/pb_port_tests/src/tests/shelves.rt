@@ -1,4 +1,4 @@
-//! What ports keep when they are taken out of use.
+//! The frames that ports keep when they are taken out of use.
 
 use super::device::Hollow;
 use super::memory_ports::check;
@@ -51,7 +51,7 @@ const BOXED: &[Row] = &[
 /// Any port.
 type Any = Box<dyn Port + Send>;
 
-// A port of each kind, with room for two frames.
+// A port of each kind, in which two frames may wait.
 
 fn memory(alloc: Global) -> Result<Any, AllocError> {
     let port: Any = Box::new(alloc, MemoryPort::new(alloc, 2, VecDeque::new(alloc)))?;
@@ -68,7 +68,7 @@ fn socket(alloc: Global) -> Result<Any, AllocError> {
     Ok(port)
 }
 
-/// How many rows hold of a port.
+/// Returns how many rows hold of a port.
 fn held_boxed(alloc: Global, port: Result<Any, AllocError>) -> usize {
     match port {
         Ok(port) => held(alloc, port, BOXED),

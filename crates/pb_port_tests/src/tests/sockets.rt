@@ -100,7 +100,7 @@ const SENDS: &[Row] = &[
     Row::Pumps(0, Pumped::Wrote(1)),
 ];
 
-/// What happens at the far end, or at the near one.
+/// The actions at the far end, or at the near one.
 const PASSES: &[(bool, &[Row])] = &[
     (true, WAITS),
     (false, SENDS),
@@ -109,7 +109,7 @@ const PASSES: &[(bool, &[Row])] = &[
     (false, GIVES),
 ];
 
-/// The two ends of a socket.
+/// Returns the two ends of a socket.
 fn ends<R: Files + Net>(rt: &R, path: &str) -> io::Result<(UnixStream, UnixStream)> {
     let listener = UnixListener::bind(rt, path)?;
     let near = UnixStream::connect(rt, path)?;
@@ -117,7 +117,7 @@ fn ends<R: Files + Net>(rt: &R, path: &str) -> io::Result<(UnixStream, UnixStrea
     Ok((near, far))
 }
 
-/// How many rows hold of ports over these ends, and how many calls of the near one failed.
+/// Returns how many rows hold of ports over these ends, and how many calls of the near one failed.
 fn passed(alloc: Global, near: UnixStream, far: UnixStream) -> (usize, u64) {
     let (seen, mut held) = (Seen::new(&[]), 0usize);
     let mut near = SocketPort::new(alloc, 4, Over::new(near));

@@ -7,20 +7,20 @@ use std::sync::atomic::{AtomicU64, Ordering};
 /// The activity of the ports of a run, all together.
 #[derive(Drop)]
 pub(super) struct PortActivity {
-    /// How often they were polled.
+    /// The number of polls.
     pub(super) polls: AtomicU64,
-    /// How many frames they took.
+    /// The number of frames that they took.
     pub(super) taken: AtomicU64,
-    /// How many of them have come to the meeting, and how many saw another one there.
+    /// The number of ports that have come to the meeting, and of those that found another one there.
     pub(super) here: AtomicU64,
     pub(super) met: AtomicU64,
-    /// How often their devices were to read, and to write.
+    /// The number of reads and of writes of their devices.
     pub(super) reads: AtomicU64,
     pub(super) writes: AtomicU64,
 }
 
 impl PortActivity {
-    /// Creates a count of no activity.
+    /// Returns a count of no activity.
     pub(super) fn new() -> PortActivity {
         PortActivity {
             polls: AtomicU64::new(0),
@@ -32,12 +32,12 @@ impl PortActivity {
         }
     }
 
-    /// How often they were polled.
+    /// Returns how often they were polled.
     pub(super) fn polls(&self) -> u64 {
         self.polls.load(Ordering::SeqCst)
     }
 
-    /// Notes all else that was seen.
+    /// Notes all other activity.
     pub(super) fn tell(&self, told: &mut Told) {
         told.taken = self.taken.load(Ordering::SeqCst);
         told.met = self.met.load(Ordering::SeqCst);
@@ -45,7 +45,7 @@ impl PortActivity {
         told.writes = self.writes.load(Ordering::SeqCst);
     }
 
-    /// Waits for the other one of two, and notes whether it came.
+    /// Waits for the other one of two, and counts it if it came.
     pub(super) fn meet(&self) {
         self.here.fetch_add(1, Ordering::SeqCst);
         if comes_to(&self.here, 2) {

@@ -19,15 +19,15 @@ use std::time::Clock;
 /// A run that drains.
 struct Row {
     setup: Setup<'static>,
-    /// How often ports of the tests' own are polled.
+    /// The number of polls of ports of the tests' own.
     polls: u64,
-    /// By lane of the first link, how many items it takes, and how many of them it loses.
+    /// By lane of the first link, the number of items that it takes, and of those that it loses.
     link: [(usize, usize); 2],
-    /// How many steps the busiest place takes.
+    /// The number of steps of the busiest place.
     most: usize,
 }
 
-/// Whether a customer port came to its end, having given all it had, and keeps what left.
+/// Checks whether a customer port came to its end, gave all its frames, and keeps what left.
 fn is_at_end(outside: &Outside, outer: Outer) -> bool {
     outside.last == Some(Last::End)
         && outside.script == Some(outer.count())
@@ -35,7 +35,7 @@ fn is_at_end(outside: &Outside, outer: Outer) -> bool {
         && outside.kept == outside.left
 }
 
-/// Whether all customer ports did.
+/// Checks whether all customer ports came to their end.
 fn are_at_end(told: &Told, ports: &[Outer]) -> bool {
     told.ports == ports.len()
         && told
@@ -45,7 +45,7 @@ fn are_at_end(told: &Told, ports: &[Outer]) -> bool {
             .all(|(outside, outer)| is_at_end(outside, *outer))
 }
 
-/// Whether a run drained as the row tells.
+/// Checks whether a run drained as the row says.
 fn has_drained(told: &Told, row: &Row) -> bool {
     told.ended == Some(Ended::Drained)
         && told.settled.is_none()
@@ -57,7 +57,7 @@ fn has_drained(told: &Told, row: &Row) -> bool {
         && told.steps.iter().copied().max() == Some(row.most)
 }
 
-/// Whether a run that only counted its steps drained too, and the same entered and left.
+/// Checks whether a run that only counted its steps drained too, with the same frames entered and left.
 fn has_counted(counted: &Told, told: &Told) -> bool {
     counted.ended == Some(Ended::Drained)
         && counted.settled.is_none()
@@ -66,7 +66,7 @@ fn has_counted(counted: &Told, told: &Told) -> bool {
         && counted.passed == told.passed
 }
 
-/// The run drains as the row tells, whether it keeps its steps or only counts them.
+/// Checks that the run drains as the row says, both if it keeps its steps and if it only counts them.
 fn drains<R: Abort + Threads + Wait + Clock + Sync>(
     rt: &R,
     alloc: Global,

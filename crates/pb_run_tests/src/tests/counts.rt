@@ -1,4 +1,4 @@
-//! Ports that are not as many as the plan's.
+//! Runs with a wrong number of ports.
 
 use super::draft::Draft;
 use super::gates::Open;
@@ -14,14 +14,14 @@ use std::test::Fail;
 use std::thread::Threads;
 use std::time::Clock;
 
-/// Whether each port still gives all it had.
+/// Checks whether each port still has all its frames.
 fn are_whole(told: &Told, ports: &[Outer]) -> bool {
     told.outside.iter().zip(ports).all(|(outside, outer)| outside.script == Some(outer.count())
         && outside.kept == 0)
 }
 
-/// Why a run didn't begin, how it ended, how many ports came back, how often they were polled, and whether each still
-/// gives all it had.
+/// Why a run did not begin, how it ended, how many ports came back, how often they were polled, and whether each still
+/// has all its frames.
 type Seen = (Option<RunCause>, Option<Ended>, usize, u64, bool);
 
 fn seen<R: Threads + Wait + Clock + Sync>(

@@ -14,8 +14,8 @@ use std::test::Fail;
 use std::thread::Threads;
 use std::time::Clock;
 
-/// How a run ended, whether the wanted frames left, how many the port did not write whose write of this number fails,
-/// whether it had taken them or not, and how many writes there were.
+/// How a run ended, whether the expected frames left, how many frames the port whose write of this number fails did not
+/// write (taken or not), and how many writes there were.
 type Written = (Option<Ended>, bool, usize, u64);
 
 fn written<R: Threads + Wait + Clock + Sync>(
@@ -43,7 +43,8 @@ fn written<R: Threads + Wait + Clock + Sync>(
 #[test]
 fn a_failed_write_leaves_the_other_ports(rt: HostRuntime) -> Result<(), Fail> {
     for call in 1..15u64 {
-        // The frame whose write fails was taken, and so may others be that came before that write; no later one is.
+        // The frame whose write fails was taken. Frames that came before that write may have been taken too, and no
+        // later one is.
         let least = call.div_ceil(4).min(3) as u32;
         let unwritten = 3 - ((call - 1) / 4).min(3) as usize;
         let wanted = (Some(Ended::Drained), true, unwritten, call.min(12));
@@ -52,8 +53,8 @@ fn a_failed_write_leaves_the_other_ports(rt: HostRuntime) -> Result<(), Fail> {
     Ok(())
 }
 
-/// How a run ended, whether the wanted frames left, what the port whose read of this number fails said last, how
-/// many of its script's frames entered or are still to come, and how many reads there were.
+/// How a run ended, whether the expected frames left, the result of the last poll of the port whose read of this number
+/// fails, how many of its script's frames entered or remain, and how many reads there were.
 type Read = (Option<Ended>, bool, Option<Last>, Option<usize>, u64);
 
 fn read<R: Threads + Wait + Clock + Sync>(

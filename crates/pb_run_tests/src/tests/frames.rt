@@ -11,15 +11,15 @@ const BROADCAST: [u8; 14] = [255, 255, 255, 255, 255, 255, 2, 0, 0, 0, 1, 1, 8, 
 /// Lists of broadcasts, each of which carries its number in four octets.
 #[derive(Clone, Copy)]
 pub(super) enum Frames {
-    /// So many, numbered from 0 on.
+    /// This many, numbered from 0 on.
     First(u32),
-    /// So many or more, numbered from 0 on.
+    /// This many or more, numbered from 0 on.
     Least(u32),
     /// Those of these numbers.
     These(&'static [u32]),
 }
 
-/// The broadcast of a number: 18 octets.
+/// Returns the broadcast of a number: 18 octets.
 pub(super) fn frame_of(alloc: Global, number: u32) -> Result<Bytes, Memory> {
     let mut octets = Vec::from_slice(alloc, &BROADCAST)?;
     for octet in number.to_be_bytes() {
@@ -28,7 +28,7 @@ pub(super) fn frame_of(alloc: Global, number: u32) -> Result<Bytes, Memory> {
     Ok(Bytes::copy_from_slice(alloc, octets.as_slice())?)
 }
 
-/// A script of so many broadcasts, numbered from 0 on.
+/// Returns a script of this many broadcasts, numbered from 0 on.
 pub(super) fn script_of(alloc: Global, count: u32) -> Result<VecDeque<Bytes>, Memory> {
     let mut script = VecDeque::new(alloc);
     for number in 0..count {
@@ -37,7 +37,7 @@ pub(super) fn script_of(alloc: Global, count: u32) -> Result<VecDeque<Bytes>, Me
     Ok(script)
 }
 
-/// Whether a frame is the broadcast of a number, octet for octet.
+/// Checks whether a frame is the broadcast of a number, octet for octet.
 fn is_frame(frame: &Bytes, number: u32) -> bool {
     let octets = frame.as_slice();
     octets.len() == 18
@@ -45,7 +45,7 @@ fn is_frame(frame: &Bytes, number: u32) -> bool {
         && octets.ends_with(number.to_be_bytes().as_slice())
 }
 
-/// Whether a list is the wanted one, octet for octet.
+/// Checks whether a list is the expected one, octet for octet.
 pub(super) fn are_frames(frames: &[Bytes], wanted: Frames) -> bool {
     match wanted {
         Frames::First(count) => {
@@ -72,7 +72,7 @@ pub(super) fn are_frames(frames: &[Bytes], wanted: Frames) -> bool {
     }
 }
 
-/// How many broadcasts stand in a list, where they are numbered from 0 on.
+/// Returns the number of broadcasts in a list, if they are numbered from 0 on.
 pub(super) fn count_of(frames: &[Bytes]) -> Option<usize> {
     let count = u32::try_from(frames.len()).ok()?;
     are_frames(frames, Frames::First(count)).then_some(frames.len())

@@ -9,7 +9,7 @@ use std::sync::Arc;
 use std::sync::atomic::{AtomicU64, Ordering};
 use std::thread;
 
-/// Waits until a number is reached, and yields at most so often. Answers whether it was.
+/// Waits until a number is reached, and yields at most this often. Returns whether it was reached.
 fn comes_within(count: &AtomicU64, wanted: u64, yields: u32) -> bool {
     for _ in 0..yields {
         if count.load(Ordering::SeqCst) >= wanted {
@@ -20,17 +20,17 @@ fn comes_within(count: &AtomicU64, wanted: u64, yields: u32) -> bool {
     false
 }
 
-/// Waits very long until a number is reached. Answers whether it was.
+/// Waits very long until a number is reached. Returns whether it was reached.
 pub(super) fn comes_to(count: &AtomicU64, wanted: u64) -> bool {
     comes_within(count, wanted, 100_000_000)
 }
 
-/// Go, where it is so.
+/// Returns `Go` if the condition holds.
 fn go_if(condition: bool) -> Go {
     if condition { Go::Go } else { Go::Stop }
 }
 
-/// Every worker may go on.
+/// A gate that stops nobody.
 #[derive(Clone, Copy)]
 pub(super) struct Open;
 
@@ -40,7 +40,7 @@ impl Gate for Open {
     }
 }
 
-/// Stops each worker at a turn.
+/// A gate that stops each worker at a turn.
 #[derive(Drop)]
 pub(super) struct StopAt(pub(super) u64);
 
@@ -50,18 +50,18 @@ impl Gate for StopAt {
     }
 }
 
-/// Wishes before the first turn of B1 that its port 2 be set down, and no more. It notes as what that port was shown.
+/// A gate that wishes once, before the first turn of B1, to disable its port 2. It counts the views of that port.
 #[derive(Drop)]
 pub(super) struct Parting {
     wished: AtomicU64,
-    /// How often it was shown Forwarding without a role.
+    /// The number of times that the port was shown Forwarding without a role.
     forwarding: AtomicU64,
-    /// How often it was shown Discarding without a role, and not Forwarding behind it.
+    /// The number of times that it was shown Discarding without a role, after it was last shown Forwarding.
     discarding: AtomicU64,
 }
 
 impl Parting {
-    /// Nothing was wished or shown.
+    /// Returns a gate at which nothing was wished or shown.
     pub(super) fn new() -> Parting {
         Parting {
             wished: AtomicU64::new(0),
@@ -70,7 +70,7 @@ impl Parting {
         }
     }
 
-    /// How often the port was shown Forwarding, and how often Discarding behind it.
+    /// Returns how often the port was shown Forwarding, and how often Discarding after that.
     pub(super) fn shown(&self) -> (u64, u64) {
         let forwarding = self.forwarding.load(Ordering::SeqCst);
         (forwarding, self.discarding.load(Ordering::SeqCst))
@@ -102,7 +102,8 @@ impl Gate for Parting {
     }
 }
 
-/// At turn 0 each pass waits for all others, and yields at most a million times. It counts the passes of all turns.
+/// A gate at whose turn 0 each pass waits for all others, and yields at most a million times. It counts the passes of
+/// all turns.
 #[derive(Drop)]
 pub(super) struct Meeting {
     here: AtomicU64,
@@ -110,7 +111,7 @@ pub(super) struct Meeting {
 }
 
 impl Meeting {
-    /// The meeting of so many places, which have the slots below that number.
+    /// Returns the meeting of this many places, which have the slots below that number.
     pub(super) fn of(alloc: Global, all: u64) -> Result<Meeting, AllocError> {
         let mut passes = Vec::new(alloc);
         for _ in 0..all {
@@ -122,12 +123,12 @@ impl Meeting {
         })
     }
 
-    /// How many have come.
+    /// Returns how many have come.
     pub(super) fn here(&self) -> u64 {
         self.here.load(Ordering::SeqCst)
     }
 
-    /// How often the place of a slot has passed.
+    /// Returns how often the place of a slot has passed.
     pub(super) fn passes_of(&self, slot: usize) -> u64 {
         match self.passes.get(slot) {
             Some(passes) => passes.load(Ordering::SeqCst),
@@ -149,7 +150,7 @@ impl Gate for Meeting {
     }
 }
 
-/// Holds B4 at its first turn until a port of the tests' own has taken a frame.
+/// A gate that holds B4 at its first turn until a port of the tests' own has taken a frame.
 #[derive(Drop)]
 pub(super) struct Holding(pub(super) Arc<PortActivity, Global>);
 
@@ -162,7 +163,7 @@ impl Gate for Holding {
     }
 }
 
-/// Each turn waits until all have come to it.
+/// A gate at which each turn waits until all have come to it.
 #[derive(Drop)]
 pub(super) struct Lockstep {
     all: u64,
@@ -170,7 +171,7 @@ pub(super) struct Lockstep {
 }
 
 impl Lockstep {
-    /// The lockstep of so many.
+    /// Returns the lockstep of this many places.
     pub(super) fn of(all: u64) -> Lockstep {
         Lockstep {
             all,

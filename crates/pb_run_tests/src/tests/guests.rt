@@ -1,4 +1,4 @@
-//! Ports of the tests' own: what they give and take is in memory, and they have habits.
+//! Ports of the tests' own: their frames are in memory, and they have habits.
 
 ghost use Rattle.std.specs.Prelude.{◌≡◌, ◌++◌, Some, None, true, false, if◌then◌else◌};
 ghost use Rattle.pb_port.specs.declared.answers.Ending.TheVariants.{End as ending_end};
@@ -11,8 +11,8 @@ use std::collections::VecDeque;
 use std::sync::Arc;
 use std::sync::atomic::Ordering;
 
-/// A call of a port, by its number among those of its kind. The first has number 1, and pumps are counted where
-/// something waits.
+/// A call of a port, by its number among those of its kind. The first has number 1, and pumps are counted if something
+/// waits.
 #[derive(Clone, Copy, PartialEq)]
 pub(super) enum Call {
     Poll(u64),
@@ -20,16 +20,16 @@ pub(super) enum Call {
     Pump(u64),
 }
 
-/// What a guest does beside giving its script and taking frames.
+/// What a guest does in addition to giving its script and taking frames.
 #[derive(Clone, Copy, PartialEq)]
 pub(super) enum Habit {
-    /// None.
+    /// Nothing more.
     Plain,
     /// Its first poll waits for that of another guest.
     Meets,
-    /// It has nothing to give for so many polls, and never comes to an end.
+    /// It has nothing to give for this many polls, and never comes to an end.
     Waits(u64),
-    /// One of its calls is refused memory.
+    /// An allocation of one of its calls fails.
     Refuses(Call),
 }
 
@@ -50,7 +50,7 @@ pub(super) struct Guest {
 }
 
 impl Guest {
-    /// A guest that gives the frames of a script.
+    /// Returns a guest that gives the frames of a script.
     pub(super) fn new(
         alloc: Global,
         script: VecDeque<Bytes>,

@@ -16,7 +16,7 @@ use std::alloc::{AllocError, Global};
 use std::marker::Brand;
 use std::test::Fail;
 
-/// A ring's two ends.
+/// The two ends of a ring.
 type Ring = (Producer<Item>, Consumer<Item>);
 
 /// A broadcast.
@@ -29,7 +29,7 @@ const STILL: Moment = Moment {
     is_open: true,
 };
 
-/// The broadcast, as the frame of this number of customer port 1.
+/// Returns the broadcast, as the frame of this number of customer port 1.
 fn item(alloc: Global, number: u64) -> Result<Item, AllocError> {
     Ok(Item {
         mark: Some(Mark {
@@ -41,7 +41,7 @@ fn item(alloc: Global, number: u64) -> Result<Item, AllocError> {
     })
 }
 
-/// The worker of lane 3, which loses its second item and may take five steps.
+/// Returns the worker of lane 3, which loses its second item and may take five steps.
 fn worker_of<W: Wiring>(
     alloc: Global,
     from: Consumer<Item>,
@@ -54,7 +54,7 @@ fn worker_of<W: Wiring>(
     Ok(LaneWorker::new(3, lane, Inlet::new(from, 0), Outlet::new(to, 1), 5))
 }
 
-/// Whether the worker's next turn has this status, and so much less is left after it.
+/// Checks whether the worker's next turn has this status, and subtracts this much from what is left to do.
 fn has_status<W: Wiring>(worker: &mut LaneWorker<W>, status: TurnStatus, fewer: u64) -> bool {
     worker.turn(STILL)
         == Turn {
@@ -64,18 +64,18 @@ fn has_status<W: Wiring>(worker: &mut LaneWorker<W>, status: TurnStatus, fewer: 
         }
 }
 
-/// What is done with a worker, or seen of it.
+/// An action of a worker, or a check of it.
 #[derive(Clone, Copy)]
 enum Row {
     /// The item of a number is sent to it.
     Sent(u64),
-    /// Its turn has this status, and so much less is left after it.
+    /// Its turn has this status, and subtracts this much from what is left to do.
     Turn(TurnStatus, u64),
     /// The item of a number has come from it.
     Came(u64),
 }
 
-/// It takes and puts items, loses one, and comes to the limit.
+/// The worker takes and puts items, loses one, and comes to the limit.
 const ROWS: &[Row] = &[
     Row::Turn(TurnStatus::Idle, 0),
     Row::Sent(0),
@@ -93,7 +93,7 @@ const ROWS: &[Row] = &[
     Row::Came(2),
 ];
 
-/// Whether a row holds.
+/// Checks whether a row holds.
 fn holds<W: Wiring>(
     alloc: Global,
     near: &mut Producer<Item>,
@@ -111,7 +111,7 @@ fn holds<W: Wiring>(
     }
 }
 
-/// Whether all rows hold of a worker between two rings.
+/// Checks whether all rows hold of a worker between two rings.
 fn carry<W: Wiring>(alloc: Global, from: Ring, to: Ring) -> Result<bool, Memory>
     requires from { (slice_get W.rings 0 ≡ Some (reader_name from.1)) × (received from.1 ≡ []) }
     requires to { (slice_get W.rings 1 ≡ Some (writer_name to.0)) × (sent to.0 ≡ []) }
@@ -126,7 +126,7 @@ fn carry<W: Wiring>(alloc: Global, from: Ring, to: Ring) -> Result<bool, Memory>
     Ok(is_good && is_closed(&mut worker))
 }
 
-/// Whether it keeps why it was closed, and the five steps that it took.
+/// Checks whether the worker keeps the reason why it was closed, and the five steps that it took.
 fn is_closed<W: Wiring>(worker: &mut LaneWorker<W>) -> bool {
     worker.close(STILL, Finish::Limit);
     worker.finish == Some(Finish::Limit) && worker.lane.steps().len() == 5

@@ -15,7 +15,7 @@ use std::test::Fail;
 use std::thread::Threads;
 use std::time::Clock;
 
-/// What has to leave where C1 sends one broadcast.
+/// The frames that have to leave if C1 sends one broadcast.
 const ONE_EACH: &[Frames] = &[
     Frames::First(0),
     Frames::First(1),
@@ -23,7 +23,7 @@ const ONE_EACH: &[Frames] = &[
     Frames::First(1),
 ];
 
-/// Whether each place passed the gate of a meeting, and took no more steps than it passed.
+/// Checks whether each place passed the gate of a meeting, and took no more steps than it passed.
 fn have_passed(told: &Told, gate: &Meeting) -> bool {
     told.steps.iter().enumerate().all(|(slot, steps)| {
         let passes = gate.passes_of(slot);

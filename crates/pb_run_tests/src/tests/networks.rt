@@ -1,4 +1,4 @@
-//! Drafts that several tests take.
+//! Drafts that several tests use.
 
 use super::draft::{Draft, Joint, Site};
 use pb_lan::Spanning;
@@ -100,7 +100,7 @@ pub(super) const STAR: Draft = Draft {
     steps: 1_000,
 };
 
-/// B1, B2 and B3 in a ring, each with a customer port of red at its port 3: C1 to C3. They decide their own tree.
+/// B1, B2 and B3 in a ring, each with a customer port of red at its port 3: C1 to C3. They run the spanning tree.
 pub(super) const RING: Draft = Draft {
     bridges: 3,
     links: &[

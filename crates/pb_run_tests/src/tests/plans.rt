@@ -7,12 +7,12 @@ use pb_lan::{
 };
 use std::alloc::Global;
 
-/// A name with a number.
+/// Returns a name with a number.
 fn name(alloc: Global, word: &str, number: usize) -> Result<Text, Memory> {
     Ok(Text::from_string(format!(in alloc; "{word}{number}")?))
 }
 
-/// The bridge of a number.
+/// Returns the bridge of a number.
 fn bridge(alloc: Global, number: u8, queue: u16) -> Result<BridgePlan, Memory> {
     Ok(BridgePlan {
         name: name(alloc, "B", usize::from(number))?,
@@ -22,7 +22,7 @@ fn bridge(alloc: Global, number: u8, queue: u16) -> Result<BridgePlan, Memory> {
     })
 }
 
-/// An end, which is Forwarding where the plan gives the states.
+/// Returns an end, which is Forwarding if the plan gives the states.
 fn end(at: At) -> End {
     End {
         bridge: at.0,
@@ -34,7 +34,7 @@ fn end(at: At) -> End {
     }
 }
 
-/// The link behind so many others.
+/// Returns the link at this index.
 fn link(alloc: Global, place: usize, joint: Joint) -> Result<LinkPlan, Memory> {
     Ok(LinkPlan {
         name: name(alloc, "L", place)?,
@@ -45,7 +45,7 @@ fn link(alloc: Global, place: usize, joint: Joint) -> Result<LinkPlan, Memory> {
     })
 }
 
-/// The customer port behind so many others.
+/// Returns the customer port at this index.
 fn customer(alloc: Global, place: usize, site: Site) -> Result<CustomerPlan, Memory> {
     Ok(CustomerPlan {
         name: name(alloc, "C", place)?,
@@ -57,7 +57,7 @@ fn customer(alloc: Global, place: usize, site: Site) -> Result<CustomerPlan, Mem
     })
 }
 
-/// The service behind so many others.
+/// Returns the service at this index.
 fn service(alloc: Global, place: usize, vid: u16) -> Result<ServicePlan, Memory> {
     Ok(ServicePlan {
         name: name(alloc, "S", place)?,
@@ -89,7 +89,7 @@ fn customers(alloc: Global, draft: &Draft) -> Result<Seq<CustomerPlan>, Memory> 
     Ok(Seq::from_vec(customers))
 }
 
-/// Red and blue.
+/// Returns red and blue.
 fn services(alloc: Global) -> Result<Seq<ServicePlan>, Memory> {
     let mut services = Vec::new(alloc);
     for (place, vid) in [(1, 100), (2, 200)] {
@@ -98,7 +98,7 @@ fn services(alloc: Global) -> Result<Seq<ServicePlan>, Memory> {
     Ok(Seq::from_vec(services))
 }
 
-/// The plan of a draft.
+/// Returns the plan of a draft.
 pub(super) fn plan_of(alloc: Global, draft: &Draft) -> Result<Plan, Memory> {
     Ok(Plan {
         bridges: bridges(alloc, draft)?,

@@ -1,4 +1,4 @@
-//! Runs that are refused memory.
+//! Runs in which an allocation fails.
 
 use super::frames::Frames;
 use super::gates::Open;
@@ -16,10 +16,10 @@ use std::thread::Threads;
 use std::time::Clock;
 
 /// How a run ended, how many ports came back, whether the frames that have to leave do, how many of the first port's
-/// script are there, and whether each port keeps what left.
+/// script exist, and whether each port keeps what left.
 type Seen = (Option<Ended>, usize, bool, Option<usize>, bool);
 
-/// What is seen of a run with a port that is refused memory at a call.
+/// Returns the result of a run with a port that meets a failed allocation at a call.
 fn seen<R: Threads + Wait + Clock + Sync>(
     rt: &R,
     alloc: Global,
@@ -37,8 +37,8 @@ fn seen<R: Threads + Wait + Clock + Sync>(
     Ok((told.ended, told.ports, told.is_left, script, told.is_kept()))
 }
 
-/// Checks runs with a port that is refused memory at a call. They end out of memory. No frame is lost of so many in the
-/// first port's script, and the frames that have to leave do.
+/// Checks runs with a port that meets a failed allocation at a call. They end out of memory. No frame of the first
+/// port's script is lost, and the frames that have to leave do.
 fn all_run_out<R: Abort + Threads + Wait + Clock + Sync>(
     rt: &R,
     alloc: Global,
@@ -101,7 +101,7 @@ fn a_port_that_is_refused_memory_ends_the_run(rt: HostRuntime) -> Result<(), Fai
 
 #[test]
 fn a_port_that_is_refused_memory_as_it_writes_ends_the_run(rt: HostRuntime) -> Result<(), Fail> {
-    // (a port writes after so many turns at the latest that it writes a hundred frames in three parts and more)
+    // (a port writes after a number of turns at most: it writes a hundred frames in at least three parts)
     const ROWS: &[(&[Outer], &[Frames])] = &[
         (
             &[
@@ -123,7 +123,8 @@ fn a_port_that_is_refused_memory_as_it_writes_ends_the_run(rt: HostRuntime) -> R
     all_run_out(&rt, rt.alloc(), 100, ROWS)
 }
 
-/// Whether a run of four bridges in a line, with one broadcast to carry, was refused memory as it may be.
+/// Checks whether a run of four bridges in a line, with one broadcast to carry, ended as it may after a failed
+/// allocation.
 fn is_named(told: &Told) -> bool {
     let is_whole = told.ports == 4 && told.outside[0].script == Some(1);
     let is_carried = told.is_left && told.is_kept();

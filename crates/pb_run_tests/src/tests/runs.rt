@@ -24,7 +24,7 @@ pub(super) const LONG: Limits = Limits {
     hold: 0,
 };
 
-/// A port outside, with so many numbered broadcasts to give.
+/// A port outside, with this many numbered broadcasts to give.
 #[derive(Clone, Copy)]
 pub(super) enum Outer {
     /// Over memory.
@@ -36,7 +36,7 @@ pub(super) enum Outer {
 }
 
 impl Outer {
-    /// How many broadcasts it has to give.
+    /// Returns how many broadcasts it has to give.
     pub(super) fn count(self) -> usize {
         match self {
             Outer::Memory(count) | Outer::Guest(count, _) | Outer::Stream(count, _) => {
@@ -52,17 +52,17 @@ pub(super) struct Setup<'a> {
     pub(super) draft: Draft,
     pub(super) ports: &'a [Outer],
     pub(super) limits: Limits,
-    /// By customer port, the frames that have to leave.
+    /// The frames that have to leave, by customer port.
     pub(super) left: &'a [Frames],
 }
 
-/// A port over memory, in a box.
+/// Returns a port over memory, in a box.
 fn memory(alloc: Global, count: u32) -> Result<Held, Memory> {
     let script = script_of(alloc, count)?;
     Ok(Box::new(alloc, MemoryPort::new(alloc, 4_096, script))?)
 }
 
-/// A port of the tests' own.
+/// Returns a port of the tests' own.
 fn guest_of(
     alloc: Global,
     count: u32,
@@ -73,7 +73,7 @@ fn guest_of(
     Ok(Guest::new(alloc, script, habit, Arc::try_clone(activity)?))
 }
 
-/// The same, in a box.
+/// Returns a port of the tests' own, in a box.
 fn guest(
     alloc: Global,
     count: u32,
@@ -83,7 +83,7 @@ fn guest(
     Ok(Box::new(alloc, guest_of(alloc, count, habit, activity)?)?)
 }
 
-/// A socket port over a device that fails, in a box.
+/// Returns a socket port over a device that fails, in a box.
 fn socket(
     alloc: Global,
     count: u32,
@@ -94,7 +94,7 @@ fn socket(
     Ok(Box::new(alloc, SocketPort::new(alloc, 4_096, stream))?)
 }
 
-/// A port outside, in a box.
+/// Returns a port outside, in a box.
 fn port_of(
     alloc: Global,
     outer: Outer,
@@ -107,7 +107,7 @@ fn port_of(
     }
 }
 
-/// The ports outside.
+/// Returns the ports outside.
 fn ports_of(
     alloc: Global,
     outers: &[Outer],
@@ -120,18 +120,18 @@ fn ports_of(
     Ok(ports)
 }
 
-/// How a run takes note of its steps.
+/// The mode of a run.
 #[derive(Clone, Copy)]
 pub(super) enum Way {
-    /// It keeps them all.
+    /// The run keeps all steps.
     Kept,
-    /// It only counts them.
+    /// The run only counts its steps.
     Counted,
-    /// It only counts them, and sets ports as its gate wishes.
+    /// The run only counts its steps, and sets ports as its gate wishes.
     Set,
 }
 
-/// What came of a run that kept its steps. A port that is still to give frames is polled on for that.
+/// Returns the result of a run that kept its steps. A port with remaining frames is polled for them.
 fn told_of_kept(
     alloc: Global,
     outcome: Result<KeptRun, RunFault>,
@@ -146,7 +146,7 @@ fn told_of_kept(
     Ok(told)
 }
 
-/// What came of a run that only counted its steps.
+/// Returns the result of a run that only counted its steps.
 fn told_of(alloc: Global, outcome: Result<Ran, RunFault>) -> Result<Told, Memory> {
     match outcome {
         Ok(ran) => tell_counted(&ran),
@@ -154,7 +154,7 @@ fn told_of(alloc: Global, outcome: Result<Ran, RunFault>) -> Result<Told, Memory
     }
 }
 
-/// Runs a plan with these ports, and tells what came of it.
+/// Runs a plan with these ports, and returns the result.
 fn ran_with<G: Gate, R: Threads + Wait + Clock + Sync>(
     rt: &R,
     alloc: Global,
@@ -179,8 +179,8 @@ fn ran_with<G: Gate, R: Threads + Wait + Clock + Sync>(
     }
 }
 
-/// Runs what a setup states, and returns what came of it, with the activity of its ports. The result owns nothing.
-/// Tests are cheap to prove then.
+/// Runs a setup, and returns the result with the activity of its ports. The result owns nothing, which keeps tests
+/// cheap to prove.
 pub(super) fn ran_under<G: Gate, R: Threads + Wait + Clock + Sync>(
     rt: &R,
     alloc: Global,
@@ -196,7 +196,7 @@ pub(super) fn ran_under<G: Gate, R: Threads + Wait + Clock + Sync>(
     Ok(told)
 }
 
-/// Runs what a setup tells, and tells what came of it.
+/// Runs a setup, and returns the result.
 pub(super) fn ran<G: Gate, R: Threads + Wait + Clock + Sync>(
     rt: &R,
     alloc: Global,

@@ -1,4 +1,4 @@
-//! Bridges that decide their own tree while they run.
+//! Bridges that run the spanning tree during a run.
 
 use super::draft::Draft;
 use super::frames::Frames;
@@ -11,8 +11,8 @@ use pb_lan::Limits;
 use pb_run::Ended;
 use std::test::Fail;
 
-/// Whether a run with three ports came to its limit, the wanted frames left, and all frames of the first port's script,
-/// so many, entered or are still to come.
+/// Checks whether a run with three ports came to its limit, the expected frames left, and all `script` frames of the
+/// first port entered or remain.
 fn is_limited(told: &Told, script: usize) -> bool {
     told.ended == Some(Ended::Limit)
         && told.ports == 3
@@ -118,7 +118,7 @@ fn a_bridge_that_ticks_at_each_turn_relays(rt: HostRuntime) -> Result<(), Fail> 
 
 #[test]
 fn a_run_whose_clocks_tick_every_few_turns_drains(rt: HostRuntime) -> Result<(), Fail> {
-    // (the bridge is never idle for long, and has many turns until the others have had theirs)
+    // (the bridge is never idle for long, and has many turns before the others have had theirs)
     const SETUP: Setup<'static> = Setup {
         draft: Draft {
             steps: 1_000_000,

@@ -10,18 +10,17 @@ use pb_lan::Limits;
 use pb_run::Ended;
 use std::test::Fail;
 
-/// Whether no place took more steps than so many.
+/// Checks whether no place took more than `most` steps.
 fn are_within(told: &Told, most: u64) -> bool {
     told.steps.iter().all(|steps| *steps as u64 <= most)
 }
 
-/// Whether at most one frame left each port but the first, and none that one.
+/// Checks whether at most one frame left each port but the first, and none left the first.
 fn is_one_at_most(told: &Told) -> bool {
     told.outside[0].left == 0 && told.outside.iter().all(|outside| outside.left <= 1)
 }
 
-/// Whether a run of four bridges in a line ended as one does that is stopped at a turn, and the frame that it had is
-/// not lost.
+/// Checks whether a run of four bridges in a line ended as one that is stopped at a turn, and its frame is not lost.
 fn is_stopped(told: &Told, turns: u64) -> bool {
     matches!(told.ended, Some(Ended::Drained | Ended::Stopped))
         && told.ports == 4
@@ -54,7 +53,7 @@ fn a_gate_stops_a_run_at_any_turn(rt: HostRuntime) -> Result<(), Fail> {
 /// Three memory ports, of which the first has one broadcast to give.
 const THREE: &[Outer] = &[Outer::Memory(1), Outer::Memory(0), Outer::Memory(0)];
 
-/// Whether a run with three ports came to its limit of steps or turns, and the frame that it had is not lost.
+/// Checks whether a run with three ports came to its limit of steps or turns, and its frame is not lost.
 fn is_limited(told: &Told, most: u64) -> bool {
     told.ended == Some(Ended::Limit)
         && told.ports == 3
@@ -89,8 +88,8 @@ fn one_turn_a_worker_is_too_few(rt: HostRuntime) -> Result<(), Fail> {
         },
         left: &[Frames::First(0), Frames::First(0), Frames::First(0)],
     };
-    // (whether the first port came to its turn before another worker ended the run is open, and so whether the record
-    // is drained)
+    // (the first port may or may not have come to its turn before another worker ended the run, and the record may or
+    // may not be drained)
     let told = ran(&rt, rt.alloc(), &SETUP, &Open, Way::Kept)?;
     assert!(rt; is_limited(&told, 1));
     Ok(())

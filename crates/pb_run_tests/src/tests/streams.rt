@@ -10,7 +10,7 @@ use std::alloc::Global;
 use std::sync::Arc;
 use std::sync::atomic::Ordering;
 
-/// How many octets a call moves: a quarter of a frame behind its length.
+/// The number of octets that a call moves: a quarter of a frame with its length.
 const STEP: usize = 5;
 
 /// A call of a device, by its number among those of its kind. The first has number 1.
@@ -20,7 +20,7 @@ pub(super) enum Broken {
     Write(u64),
 }
 
-/// A stream of frames, each behind its length in two octets, of which one call fails. What is written is let go.
+/// A stream of frames, each after its length in two octets, of which one call fails. What is written is dropped.
 #[derive(Drop)]
 pub(super) struct Stream {
     input: Vec<u8>,
@@ -34,7 +34,7 @@ pub(super) struct Stream {
 }
 
 impl Stream {
-    /// The stream of so many broadcasts, numbered from 0 on.
+    /// Returns the stream of this many broadcasts, numbered from 0 on.
     pub(super) fn new(
         alloc: Global,
         count: u32,

@@ -1,4 +1,4 @@
-//! What came of a run.
+//! The results of a run.
 
 use super::frames::{Frames, are_frames, count_of};
 use bytes::Bytes;
@@ -11,56 +11,56 @@ use pb_run::{Ended, Held, KeptRun, Last, Ran, RunCause, RunFault};
 use std::alloc::Global;
 use std::collections::VecDeque;
 
-/// What came of a run at a customer port.
+/// The result of a run at a customer port.
 #[derive(Clone, Copy)]
 pub(super) struct Outside {
-    /// What the newest poll said.
+    /// The result of the newest poll.
     pub(super) last: Option<Last>,
-    /// How many frames entered or are still to come, where these are the script's from its beginning on.
+    /// The number of frames that entered or remain, if they are the script's from its beginning on.
     pub(super) script: Option<usize>,
-    /// How many frames left, and how many could not, since the port took none any more.
+    /// The number of frames that left, and of those that could not, because the port was gone.
     pub(super) left: usize,
     pub(super) gone: usize,
-    /// How many frames the port keeps, sent or not.
+    /// The number of frames that the port keeps, sent or not.
     pub(super) kept: usize,
 }
 
-/// What came of a run.
+/// The result of a run.
 #[derive(Clone, Copy)]
 pub(super) struct Told {
-    /// How it ended, where it ran.
+    /// How it ended, if it ran.
     pub(super) ended: Option<Ended>,
     /// Whether its record is drained.
     pub(super) is_drained: bool,
-    /// Why it didn't.
+    /// The reason why it did not run.
     pub(super) cause: Option<RunCause>,
-    /// How many ports came back.
+    /// The number of ports that came back.
     pub(super) ports: usize,
-    /// How often ports of the tests' own were polled.
+    /// The number of polls of ports of the tests' own.
     pub(super) polls: u64,
-    /// How many frames they took, and how many of them saw another one at a meeting.
+    /// The number of frames that they took, and of ports that found another one at a meeting.
     pub(super) taken: u64,
     pub(super) met: u64,
-    /// How often their devices were to read, and to write.
+    /// The number of reads and of writes of their devices.
     pub(super) reads: u64,
     pub(super) writes: u64,
     /// Whether the bridges are settled.
     pub(super) settled: Option<bool>,
-    /// The wanted frames left, octet for octet and in order, and no others.
+    /// Whether exactly the expected frames left, octet for octet and in order.
     pub(super) is_left: bool,
-    /// What came of it at each of the first customer ports.
+    /// The result at each of the first customer ports.
     pub(super) outside: [Outside; 4],
-    /// By lane of the first link, how many items it took, and how many of them it lost.
+    /// By lane of the first link, the number of items that it took, and of those that it lost.
     pub(super) link: [(usize, usize); 2],
-    /// How many steps each place took, at its slot.
+    /// The number of steps of each place, at its slot.
     pub(super) steps: [usize; 14],
-    /// How many steps of bridges tell of want of memory.
+    /// The number of steps of bridges that report a failed allocation.
     pub(super) short: usize,
-    /// How many frames entered and left at each of the first customer ports, as they were counted.
+    /// The number of frames that entered and left at each of the first customer ports, as counted.
     pub(super) passed: [(u64, u64); 4],
 }
 
-/// Nothing came of it at a customer port.
+/// The result at a customer port without frames.
 pub(super) const NOWHERE: Outside = Outside {
     last: None,
     script: None,
@@ -69,7 +69,7 @@ pub(super) const NOWHERE: Outside = Outside {
     kept: 0,
 };
 
-/// Nothing came of a run.
+/// The result of a run in which nothing happened.
 pub(super) const NOTHING: Told = Told {
     ended: None,
     is_drained: false,
@@ -90,7 +90,7 @@ pub(super) const NOTHING: Told = Told {
 };
 
 impl Told {
-    /// Whether each port keeps what left.
+    /// Checks whether each port keeps what left.
     pub(super) fn is_kept(&self) -> bool {
         self.outside
             .iter()
@@ -98,7 +98,7 @@ impl Told {
     }
 }
 
-/// Where a place stands among those of four bridges in a line: customer ports, then lanes, then bridges.
+/// Returns the index of a place among those of four bridges in a line: customer ports, then lanes, then bridges.
 pub(super) fn slot_of(place: Place) -> usize {
     match place {
         Place::Customer(number) => usize::from(number).saturating_sub(1),
@@ -107,7 +107,7 @@ pub(super) fn slot_of(place: Place) -> usize {
     }
 }
 
-/// Notes how many steps each place of a kind took, from the slot of the first one on.
+/// Notes the number of steps of each place of a kind, from the slot of the first one on.
 fn put_counts(slots: &mut [usize], first: Place, lists: &[Seq<Step>]) {
     let from = slot_of(first);
     for (place, list) in lists.iter().enumerate() {
@@ -117,7 +117,7 @@ fn put_counts(slots: &mut [usize], first: Place, lists: &[Seq<Step>]) {
     }
 }
 
-/// How many items the steps of a lane took, and how many of them they lost.
+/// Returns how many items the steps of a lane took, and how many of them they lost.
 fn taken_and_lost(steps: &[Step]) -> (usize, usize) {
     let (mut taken, mut lost) = (0usize, 0usize);
     for step in steps {
@@ -129,7 +129,7 @@ fn taken_and_lost(steps: &[Step]) -> (usize, usize) {
     (taken, lost)
 }
 
-/// Whether a step of a bridge tells of want of memory.
+/// Checks whether a step of a bridge reports a failed allocation.
 fn is_short(step: &Step) -> bool {
     match step {
         Step::Receive {
@@ -151,7 +151,7 @@ fn is_short(step: &Step) -> bool {
     }
 }
 
-/// How many steps of bridges tell of want of memory.
+/// Returns how many steps of bridges report a failed allocation.
 fn short(bridges: &[Seq<Step>]) -> usize {
     let mut short = 0usize;
     for steps in bridges {
@@ -162,7 +162,7 @@ fn short(bridges: &[Seq<Step>]) -> usize {
     short
 }
 
-/// How many frames could not leave by the steps of a customer port, since it took none any more.
+/// Returns how many frames could not leave by the steps of a customer port, because the port was gone.
 fn gone(steps: &[Step]) -> usize {
     let mut gone = 0usize;
     for step in steps {
@@ -173,7 +173,7 @@ fn gone(steps: &[Step]) -> usize {
     gone
 }
 
-/// How many frames stand in a list with those behind it that a port still gives, where they are a script's from
+/// Returns the number of frames in a list and of those that a port still gives after them, if they are a script's from
 /// its beginning on. A port that waits is polled on.
 fn script_of(frames: Vec<Bytes>, port: &mut Held) -> Result<Option<usize>, Memory> {
     let mut frames = frames;
@@ -187,7 +187,7 @@ fn script_of(frames: Vec<Bytes>, port: &mut Held) -> Result<Option<usize>, Memor
     Ok(count_of(frames.as_slice()))
 }
 
-/// How many frames a port keeps. It is taken out of use.
+/// Returns how many frames a port keeps. It is taken out of use.
 fn kept(alloc: Global, port: &mut Held) -> usize {
     let mut shelf = Shelf {
         unsent: VecDeque::new(alloc),
@@ -197,7 +197,7 @@ fn kept(alloc: Global, port: &mut Held) -> usize {
     shelf.sent.len().saturating_add(shelf.unsent.len())
 }
 
-/// What came of a run at the customer port of a number.
+/// Returns the result of a run at the customer port of a number.
 fn seen_at(
     alloc: Global,
     rec: &Record,
@@ -219,7 +219,7 @@ fn seen_at(
     })
 }
 
-/// Whether the wanted frames left each customer port, and no others.
+/// Checks whether exactly the expected frames left each customer port.
 fn is_left(alloc: Global, rec: &Record, wanted: &[Frames]) -> Result<bool, Memory> {
     let mut number = 0u8;
     for frames in wanted {
@@ -231,7 +231,7 @@ fn is_left(alloc: Global, rec: &Record, wanted: &[Frames]) -> Result<bool, Memor
     Ok(true)
 }
 
-/// Notes what came of a run at the first customer ports.
+/// Notes the results at the first customer ports.
 fn tell_outside(
     alloc: Global,
     ran: &mut Ran,
@@ -247,7 +247,7 @@ fn tell_outside(
     Ok(())
 }
 
-/// Notes what the lanes of the first link took and lost, and how many steps each place took.
+/// Notes the items that the lanes of the first link took and lost, and the number of steps of each place.
 fn tell_steps(rec: &Record, told: &mut Told) {
     let lanes = rec.lanes.as_slice();
     for (lane, count) in told.link.iter_mut().enumerate() {
@@ -262,7 +262,7 @@ fn tell_steps(rec: &Record, told: &mut Told) {
     told.short = short(bridges);
 }
 
-/// How many frames entered and left at each of the first customer ports.
+/// Returns how many frames entered and left at each of the first customer ports.
 fn passed(counts: &Tallies) -> [(u64, u64); 4] {
     let mut passed = [(0, 0); 4];
     for (port, tally) in passed.iter_mut().zip(counts.customers()) {
@@ -271,7 +271,7 @@ fn passed(counts: &Tallies) -> [(u64, u64); 4] {
     passed
 }
 
-/// What came of a run that only counted its steps.
+/// Returns the result of a run that only counted its steps.
 pub(super) fn tell_counted(ran: &Ran) -> Result<Told, Memory> {
     let mut told = NOTHING;
     told.ended = Some(ran.ended);
@@ -282,12 +282,12 @@ pub(super) fn tell_counted(ran: &Ran) -> Result<Told, Memory> {
     Ok(told)
 }
 
-/// Whether a record is drained.
+/// Checks whether a record is drained.
 fn is_drained_by(alloc: Global, rec: &Record) -> Result<bool, Memory> {
     Ok(is_drained(&Tallies::of(alloc, rec)?))
 }
 
-/// What came of a run that kept its steps. The wanted frames are given by customer port.
+/// Returns the result of a run that kept its steps. The expected frames are given by customer port.
 pub(super) fn tell(alloc: Global, kept: &mut KeptRun, wanted: &[Frames]) -> Result<Told, Memory> {
     let mut told = tell_counted(&kept.ran)?;
     told.is_drained = is_drained_by(alloc, &kept.rec)?;
@@ -297,7 +297,7 @@ pub(super) fn tell(alloc: Global, kept: &mut KeptRun, wanted: &[Frames]) -> Resu
     Ok(told)
 }
 
-/// What came of a run that did not run.
+/// Returns the result of a run that did not start.
 pub(super) fn tell_fault(alloc: Global, fault: &mut RunFault) -> Result<Told, Memory> {
     let mut told = NOTHING;
     told.cause = Some(fault.cause);

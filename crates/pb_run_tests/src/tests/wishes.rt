@@ -1,4 +1,4 @@
-//! Ports that are set down and up while a network runs.
+//! Ports that are disabled and enabled during a run.
 
 use super::gates::Parting;
 use super::networks::LINE;
@@ -7,7 +7,7 @@ use super::told::Told;
 use pb_run::Ended;
 use std::test::Fail;
 
-/// Four bridges in a line; C1 gives three broadcasts.
+/// Four bridges in a line. C1 gives three broadcasts.
 const SETUP: Setup<'static> = Setup {
     draft: LINE,
     ports: &[
@@ -20,8 +20,8 @@ const SETUP: Setup<'static> = Setup {
     left: &[],
 };
 
-/// How a run ended, whether its record has drained, what entered and left at each port, and how often port 2 of B1 was
-/// shown Forwarding, and how often Discarding behind it.
+/// How a run ended, whether its record has drained, what entered and left at each port, how often port 2 of B1 was
+/// shown Forwarding, and how often Discarding after that.
 type Seen = (Option<Ended>, bool, [(u64, u64); 4], (u64, u64));
 
 fn seen(told: &Told, gate: &Parting) -> Seen {

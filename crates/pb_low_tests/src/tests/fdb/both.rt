@@ -7,7 +7,7 @@ use pb_fdb::{Fdb, Learnt};
 use pb_frame::Mac;
 use std::alloc::Global;
 
-/// Numbers in a fixed order that looks random: the generator of Park and Miller.
+/// Pseudorandom numbers in a fixed order: the generator of Park and Miller.
 #[derive(Clone, Copy)]
 pub struct Dice(pub u32);
 
@@ -144,7 +144,7 @@ fn some_port(dice: &mut Dice) -> u8 {
     1 + dice.below(4) as u8
 }
 
-/// Returns one of nine stations, and now and then a group.
+/// Returns one of nine stations, and sometimes a group.
 fn some_station(dice: &mut Dice) -> Mac {
     let first = if dice.below(16) == 0 { 3 } else { 2 };
     Mac([first, 0, 0, 0, dice.below(3) as u8, dice.below(3) as u8])

@@ -35,7 +35,8 @@ fn put(lane: &mut Lane) -> Result<Option<Item>, Memory> {
     Ok(Some(lane.release()?))
 }
 
-/// `check-memory` lets each allocation fail in turn, and all from each one on. The asserted calls make none.
+/// Checks that a place which only counts its steps hands items on without an allocation. `check-memory` lets each
+/// allocation fail in turn, and all from each one on. The asserted calls make none.
 #[test]
 fn what_is_counted_is_handed_on_without_memory(rt: HostRuntime) -> Result<(), Fail> {
     let wanted = item(rt.alloc(), 0)?;
