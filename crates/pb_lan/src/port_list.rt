@@ -53,7 +53,7 @@ impl PortList {
         requires { length self.old < 16 }
         ensures { self.new ≡ self.old ++ (if is_wanted then port ∷ [] else []) }
     {
-        self.ports[usize::from(self.count)] = port;
+        self.ports[self.count as usize] = port;
         self.count += u8::from(is_wanted);
     }
 
