@@ -1,6 +1,6 @@
 //! The spanning tree of one bridge.
 
-ghost use Rattle.std.specs.Prelude.{◌≡◌, map, IfOk, IsSome, Some};
+ghost use Rattle.std.specs.Prelude.{◌≡◌, map, IfOk, IsSome, Some, true, false};
 ghost use Rattle.pb_rstp.specs.Laws.{IsInLine};
 ghost use Rattle.pb_rstp.specs.Ports.{start, fresh, port_of};
 ghost use Rattle.pb_rstp.specs.Readings.{AreAbove, numbers_of, roles_of, states_of, root_of, vector_at, stored_at};
