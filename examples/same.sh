@@ -1,7 +1,7 @@
 #!/usr/bin/env bash
 # Compares each file of examples/ with its copy in a test of the gate or beside the program, and then, by
-# scripts/pages, the blocks of the pages of docs/ with the files. Prints `N copies agree, and the pages`, or what
-# differs on standard error with exit status 1.
+# scripts/pages, the blocks of the pages of docs/ with the files, and by scripts/examples the examples of docstrings with
+# their tests. Prints `N copies agree, the pages and the docstrings`, or what differs on standard error with exit status 1.
 set -eu
 cd -- "$(dirname -- "$0")"
 
@@ -79,5 +79,6 @@ for name in none:plans provider:captures camera:captures; do
 done
 
 ../scripts/pages || status=1
-[ "$status" != 0 ] || echo "$count copies agree, and the pages"
+../scripts/examples || status=1
+[ "$status" != 0 ] || echo "$count copies agree, the pages and the docstrings"
 exit "$status"
