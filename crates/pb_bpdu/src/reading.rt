@@ -97,6 +97,22 @@ fn decode(frame: &[u8]) -> Result<Bpdu, BpduFault>
 /// the number of octets that follow it, or the octets of logical link control differ from 42-42-03; `Short` if fewer
 /// than 4 octets of a BPDU are within the length; `Protocol` if the protocol is not 0; `Kind` if the type is not 2;
 /// `Old` if the version is below 2; `Short` if fewer than 36 octets of a BPDU are within the length.
+///
+/// # Examples
+///
+/// ```
+/// use pb_bpdu::{read, write};
+/// use pb_frame::Mac;
+///
+/// // Bridge 8000.02-00-00-00-00-01 proposes itself as the root.
+/// let frame = b"\x01\x80\xc2\0\0\x08\x02\0\0\0\0\x01\0\x27\x42\x42\x03\0\0\x02\x02\x0e\
+///     \x80\0\x02\0\0\0\0\x01\0\0\0\0\x80\0\x02\0\0\0\0\x01\x80\x01\0\0\x14\0\x02\0\x0f\0\0";
+/// let bpdu = read(frame)?;
+/// assert!(rt; bpdu.proposal && !bpdu.agreement);
+/// assert_eq!(rt; (bpdu.root, bpdu.cost), (0x8000_0200_0000_0001, 0));
+/// let written = write(rt.alloc(), Mac([2, 0, 0, 0, 0, 1]), &bpdu)?;
+/// assert_eq!(rt; written.as_slice(), frame.as_slice());
+/// ```
 pub fn read(frame: &[u8]) -> Result<Bpdu, BpduFault>
     // The BPDU that is read is in the frame.
     ensures found { IfOk result (λ m. IsBpduFrame frame.now m) }

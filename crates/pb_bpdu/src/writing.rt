@@ -103,6 +103,22 @@ fn encode(alloc: Global, src: Mac, m: &Bpdu) -> Result<Bytes, Memory>
 /// # Errors
 ///
 /// `Memory` if an allocation failed.
+///
+/// # Examples
+///
+/// ```
+/// use pb_bpdu::{read, write};
+/// use pb_frame::Mac;
+///
+/// // Bridge 8000.02-00-00-00-00-01 proposes itself as the root.
+/// let frame = b"\x01\x80\xc2\0\0\x08\x02\0\0\0\0\x01\0\x27\x42\x42\x03\0\0\x02\x02\x0e\
+///     \x80\0\x02\0\0\0\0\x01\0\0\0\0\x80\0\x02\0\0\0\0\x01\x80\x01\0\0\x14\0\x02\0\x0f\0\0";
+/// let bpdu = read(frame)?;
+/// assert!(rt; bpdu.proposal && !bpdu.agreement);
+/// assert_eq!(rt; (bpdu.root, bpdu.cost), (0x8000_0200_0000_0001, 0));
+/// let written = write(rt.alloc(), Mac([2, 0, 0, 0, 0, 1]), &bpdu)?;
+/// assert_eq!(rt; written.as_slice(), frame.as_slice());
+/// ```
 pub fn write(alloc: Global, src: Mac, m: &Bpdu) -> Result<Bytes, Memory>
     // The BPDU is in the frame.
     ensures stands { IfOk result (λ frame. IsBpduFrame frame m.now) }

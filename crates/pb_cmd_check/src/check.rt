@@ -68,6 +68,18 @@ fn put_check(alloc: Global, out: &mut String, file: &[u8]) -> Result<u8, Memory>
 ///
 /// `Memory` if an allocation failed, and then nothing was written. `Write` if the write failed, and then it is not
 /// known how much was written. There are no other errors.
+///
+/// # Examples
+///
+/// ```
+/// use pb_cmd_check::run_check;
+///
+/// let mut output = Vec::new(rt.alloc());
+/// let status = run_check(rt.alloc(), b"[network]\nageing = 9\n", &mut output)?;
+/// assert_eq!(rt; status, 1);
+/// let line = b"plan: 5 range network.ageing\n";
+/// assert_eq!(rt; output.as_slice(), line.as_slice());
+/// ```
 pub fn run_check<W: Write>(alloc: Global, file: &[u8], writer: &mut W) -> Result<u8, CommandFault>
     ensures ok { IfOk result (λ status. (text : List ℕ) × Appends (W.contents writer.old) (W.contents writer.new) text
         × IsCheckText file.now status text) }

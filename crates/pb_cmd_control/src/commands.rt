@@ -16,6 +16,19 @@ const END: &str = "--";
 /// # Errors
 ///
 /// `AllocError` if an allocation failed.
+///
+/// # Examples
+///
+/// ```
+/// use pb_cmd_control::command_lines;
+///
+/// let mut arguments = Vec::new(rt.alloc());
+/// for word in ["down", "B1", "1", "--", "stop"] {
+///     arguments.push(String::from_str(rt.alloc(), word)?)?;
+/// }
+/// let lines = command_lines(rt.alloc(), &arguments)?;
+/// assert_eq!(rt; lines.as_slice(), b"down B1 1\nstop\n".as_slice());
+/// ```
 pub fn command_lines(alloc: Global, arguments: &[String]) -> Result<Vec<u8>, AllocError>
     ensures { IfOk result (λ lines. lines.items ≡ lines_of_arguments true (map string_bytes arguments.now)) }
 {

@@ -153,6 +153,18 @@ pub fn run_flat_on<R: Read, W: Write>(
 /// `Read` if a read failed. `Write` if a write failed, and then it is not known how much was written. `Steps` if the
 /// bridge has reached its limit of steps: at least 2^60-1 lines brought a frame then. `Memory` if an allocation failed.
 /// After any fault but `Write`, the output of the first lines is written whole, and nothing else is.
+///
+/// # Examples
+///
+/// ```
+/// use pb_cmd_flat::run_flat;
+///
+/// let mut input = b"in 1 ffffffffffff0200000000010800\nhello\n".as_slice();
+/// let mut output = Vec::new(rt.alloc());
+/// run_flat(rt.alloc(), 2, &mut input, &mut output)?;
+/// let lines = b"out 2 ffffffffffff0200000000010800\nline 2: bad\n";
+/// assert_eq!(rt; output.as_slice(), lines.as_slice());
+/// ```
 pub fn run_flat<R: Read, W: Write>(
     alloc: Global,
     ports: u8,

@@ -112,15 +112,6 @@ fn rounds(
 /// end when the bridges are settled after two in a row, or after `most` of them. The result is `Given`, and nothing is
 /// done, if the plan gives the states of the ports. It is `Unsettled` for each `most` below 2.
 ///
-/// # Examples
-///
-/// ```text
-/// let mut net = Net::new(alloc, plan.clone()?)?;              // of pb_net
-/// settle(alloc, &mut net, &plan, 200, 1_000_000)?;            // the bridges tick until they are settled
-/// net.step(Event::Poll { port: 1, frame })?;                  // a frame is polled
-/// drain(&mut net, &plan, 1_000_000)?;                         // it and its copies go as far as they go
-/// ```
-///
 /// # Errors
 ///
 /// `Events` if more than `events` events besides the ticks are due. `Steps` if a place had to take more steps than the

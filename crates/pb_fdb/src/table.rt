@@ -119,6 +119,20 @@ impl Fdb {
     }
 
     /// Returns the port at which the station was last seen in the service, if that is fewer than `ageing` ticks ago.
+    ///
+    /// # Examples
+    ///
+    /// ```
+    /// use pb_fdb::{Fdb, Learnt};
+    /// use pb_frame::Mac;
+    ///
+    /// let station = Mac([2, 0, 0, 0, 0, 1]);
+    /// let mut fdb = Fdb::new(rt.alloc(), 4096, 300);
+    /// assert_eq!(rt; fdb.learn(100, station, 1, 0), Learnt::New);
+    /// assert_eq!(rt; fdb.find(100, station, 299), Some(1));
+    /// assert_eq!(rt; fdb.find(100, station, 300), None);
+    /// assert_eq!(rt; fdb.find(200, station, 0), None);
+    /// ```
     pub fn find(&self, vid: u16, mac: Mac, now: u64) -> Option<u8>
         ensures { result ≡ where_in self.now now vid mac.0 }
     {
@@ -136,6 +150,19 @@ impl Fdb {
     /// one is not. Returns `Kept` or `Moved` if the station is live, without an allocation. Otherwise it returns
     /// `New`, or `Memory` if an allocation failed. If the table has `limit` entries and the station is added, entries
     /// that have aged out are removed. `Full`, `Group` and `Memory` leave the entries unchanged.
+    ///
+    /// # Examples
+    ///
+    /// ```
+    /// use pb_fdb::{Fdb, Learnt};
+    /// use pb_frame::Mac;
+    ///
+    /// let station = Mac([2, 0, 0, 0, 0, 1]);
+    /// let mut fdb = Fdb::new(rt.alloc(), 4096, 300);
+    /// assert_eq!(rt; fdb.learn(100, station, 1, 0), Learnt::New);
+    /// assert_eq!(rt; fdb.learn(100, station, 1, 5), Learnt::Kept);
+    /// assert_eq!(rt; fdb.learn(100, station, 2, 9), Learnt::Moved);
+    /// ```
     pub fn learn(&mut self, vid: u16, mac: Mac, port: u8, now: u64) -> Learnt
         requires { self.old.clock ≤ now }
         ensures answer { IsLearnt (is_group mac.0) (where_in self.old now vid mac.0) (is_full self.old now) port

@@ -41,6 +41,23 @@ impl From<Memory> for TagFault {
 /// # Errors
 ///
 /// `Memory` if an allocation failed.
+///
+/// # Examples
+///
+/// ```
+/// use bytes::Bytes;
+/// use pb_frame::{Tci, push_s};
+///
+/// let tci = Tci {
+///     pcp: 5,
+///     dei: 0,
+///     vid: 100,
+/// };
+/// let frame = Bytes::from_static(b"\xff\xff\xff\xff\xff\xff\x02\0\0\0\0\x01\x08\0AB");
+/// let tagged = push_s(rt.alloc(), &frame, tci)?;
+/// let wanted = b"\xff\xff\xff\xff\xff\xff\x02\0\0\0\0\x01\x88\xa8\xa0\x64\x08\0AB";
+/// assert_eq!(rt; tagged.as_slice(), wanted.as_slice());
+/// ```
 pub fn push_s(alloc: Global, frame: &Bytes, tci: Tci) -> Result<Bytes, Memory>
     requires { 14 ≤ length frame.now }
     ensures { IfOk result (λ b. b ≡ tagged frame.now tci.pcp tci.dei tci.vid) }
@@ -61,6 +78,19 @@ pub fn push_s(alloc: Global, frame: &Bytes, tci: Tci) -> Result<Bytes, Memory>
 ///
 /// `NoTag` if 88 A8 does not follow the addresses, `Cut` if it does but the frame has fewer than 18 octets, `Memory`
 /// if an allocation failed.
+///
+/// # Examples
+///
+/// ```
+/// use bytes::Bytes;
+/// use pb_frame::pop_s;
+///
+/// let tagged = b"\xff\xff\xff\xff\xff\xff\x02\0\0\0\0\x01\x88\xa8\xa0\x64\x08\0AB";
+/// let frame = b"\xff\xff\xff\xff\xff\xff\x02\0\0\0\0\x01\x08\0AB";
+/// let (tci, untagged) = pop_s(rt.alloc(), &Bytes::from_static(tagged))?;
+/// assert_eq!(rt; (tci.pcp, tci.dei, tci.vid), (5, 0, 100));
+/// assert_eq!(rt; untagged.as_slice(), frame.as_slice());
+/// ```
 pub fn pop_s(alloc: Global, frame: &Bytes) -> Result<(Tci, Bytes), TagFault>
     ensures ok { IfOk result (λ p. frame.now ≡ tagged p.1 p.0.pcp p.0.dei p.0.vid) }
     ensures no_tag { IsErrOf result TagFault.NoTag ↔ (has_service_type frame.now ≡ false) }

@@ -49,6 +49,19 @@ fn has_distinct_names(plan: &Plan) -> bool
 /// - bridge addresses are individual (IEEE 802.3 clause 3.2.3), VIDs are 1 to 4,094 (IEEE 802.1Q clause 9.6), bridge
 ///   priorities multiples of 4,096 and port priorities multiples of 16 (IEEE 802.1D-2004 clauses 9.2.5 and 9.2.7);
 /// - the lost items of each direction and the services of each end ascend strictly.
+///
+/// # Examples
+///
+/// ```
+/// use pb_lan::plan_is_sound;
+/// use pb_service::read_plan;
+///
+/// let (mut plan, _) = read_plan(rt.alloc(), b"[network]\nageing = 10\n")?;
+/// assert!(rt; plan_is_sound(&plan));
+/// // The ageing time is 10 ticks or more.
+/// plan.ageing = 9;
+/// assert!(rt; !plan_is_sound(&plan));
+/// ```
 pub fn plan_is_sound(plan: &Plan) -> bool
     ensures { IsTrue result ↔ IsSound plan.now }
 {

@@ -23,21 +23,6 @@ use std::marker::Model;
 ///
 /// The network keeps the steps of its places, the queues between them, and nothing else that does not follow from
 /// these.
-///
-/// # Examples
-///
-/// A frame crosses a bridge from customer port 1, at its local port 2, to customer port 2, at its local port 3:
-///
-/// ```text
-/// let (plan, _ports) = read_plan(alloc, file)?;               // of pb_service; it is sound
-/// let mut net = Net::new(alloc, plan)?;
-/// net.step(Event::Poll { port: 1, frame })?;                  // the port polls the frame
-/// net.step(Event::Feed { port: 1 })?;                         // and feeds it to the bridge
-/// net.step(Event::Receive { bridge: 1, port: 2 })?;           // it is learnt and relayed
-/// net.step(Event::Transmit { bridge: 1, port: 3 })?;          // it leaves the bridge
-/// net.step(Event::Deliver { port: 2 })?;                      // and the network
-/// let frames = left(alloc, &net.finish(), 2)?;                // of pb_lan: it, octet for octet
-/// ```
 #[derive(Drop)]
 pub struct Net {
     /// The plan.
@@ -91,6 +76,29 @@ impl Net {
     /// `NoSuch` if a number of the event names no place or port, or if the port of an `Admin` is no provider port.
     /// `StepLimit` if there is something to do and the place has taken the plan's number of steps. `Memory` if an
     /// allocation failed. The network is unchanged after each of them.
+    ///
+    /// # Examples
+    ///
+    /// ```
+    /// use bytes::Bytes;
+    /// use pb_lan::Place;
+    /// use pb_net::{Did, Event, Net, NetFault};
+    /// use pb_service::read_plan;
+    ///
+    /// let file = b"
+    ///     bridge = [{ name = 'B1', address = '02-00-00-00-00-01' }]
+    ///     service = [{ name = 'red', vid = 100 }]
+    ///     port = [{ name = 'C1', bridge = 'B1', port = 1, service = 'red' }]";
+    /// let (plan, _) = read_plan(rt.alloc(), file)?;
+    /// let mut net = Net::new(rt.alloc(), plan)?;
+    /// let frame = Bytes::from_static(b"\xff\xff\xff\xff\xff\xff\x02\0\0\0\0\x01\x08\0");
+    /// let done = Ok(Did::Done(Place::Customer(1)));
+    /// assert_eq!(rt; net.step(Event::Poll { port: 1, frame }), done);
+    /// assert_eq!(rt; net.step(Event::Feed { port: 1 }), done);
+    /// // The frame is at the bridge, and the customer port has no other.
+    /// assert_eq!(rt; net.step(Event::Feed { port: 1 }), Ok(Did::Idle));
+    /// assert_eq!(rt; net.step(Event::Feed { port: 2 }), Err(NetFault::NoSuch));
+    /// ```
     pub fn step(&mut self, event: Event) -> Result<Did, NetFault>
         ensures { IsAnswer self.old event result self.new }
     {

@@ -237,6 +237,20 @@ impl Net {
     /// # Errors
     ///
     /// `Memory` if an allocation failed. There is no other error.
+    ///
+    /// # Examples
+    ///
+    /// ```
+    /// use pb_lan::Place;
+    /// use pb_net::Net;
+    /// use pb_service::read_plan;
+    ///
+    /// let file = b"bridge = [{ name = 'B1', address = '02-00-00-00-00-01' }]";
+    /// let (plan, _) = read_plan(rt.alloc(), file)?;
+    /// let net = Net::new(rt.alloc(), plan)?;
+    /// assert!(rt; net.has_place(Place::Bridge(1)));
+    /// assert!(rt; !net.has_place(Place::Bridge(2)));
+    /// ```
     pub fn new(alloc: Global, plan: Plan) -> Result<Net, Memory>
         requires { IsSound plan }
         ensures { IfOk result (λ net. net ≡ record { plan = plan; rec = empty_record plan }) }

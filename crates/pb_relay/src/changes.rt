@@ -28,6 +28,21 @@ impl Bridge {
     /// `StepLimit` if and only if the list has as many steps as the plan allows. `Memory` if an allocation for the step
     /// or for the protocol failed. The bridge is unchanged then. After `reserve_step` the call cannot fail if the plan
     /// gives the states.
+    ///
+    /// # Examples
+    ///
+    /// ```
+    /// use pb_lan::Step;
+    /// use pb_relay::Bridge;
+    /// use pb_service::read_plan;
+    ///
+    /// let file = b"bridge = [{ name = 'B1', address = '02-00-00-00-00-01' }]";
+    /// let (plan, _) = read_plan(rt.alloc(), file)?;
+    /// assert_eq!(rt; plan.bridges.len(), 1);
+    /// let mut bridge = Bridge::new(rt.alloc(), &plan, 1)?;
+    /// assert_eq!(rt; bridge.tick(), Ok(()));
+    /// assert!(rt; matches!(bridge.steps(), [Step::Tick { now: 1, .. }]));
+    /// ```
     pub fn tick(&mut self) -> Result<(), BridgeFault>
         ensures ok { OnOk result (HasTicked self.old self.new) }
         ensures err { OnErr result (self.new ≡ self.old) }

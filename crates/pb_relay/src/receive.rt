@@ -40,6 +40,32 @@ impl Bridge {
     ///
     /// `StepLimit` if and only if the list has as many steps as the plan allows. `Memory` if the allocation for the
     /// step failed, which cannot happen after `reserve_step`. The bridge is unchanged then, and the item is returned.
+    ///
+    /// # Examples
+    ///
+    /// ```
+    /// use bytes::Bytes;
+    /// use pb_lan::{Item, Outcome, PortSet, Refusals};
+    /// use pb_relay::Bridge;
+    /// use pb_service::read_plan;
+    ///
+    /// let chosen = PortSet::from_slice(&[2]).ok_or("not local ports")?;
+    /// let file = b"
+    ///     bridge = [{ name = 'B1', address = '02-00-00-00-00-01' }]
+    ///     service = [{ name = 'red', vid = 100 }]
+    ///     port = [
+    ///         { name = 'C1', bridge = 'B1', port = 1, service = 'red' },
+    ///         { name = 'C2', bridge = 'B1', port = 2, service = 'red' },
+    ///     ]";
+    /// let (plan, _) = read_plan(rt.alloc(), file)?;
+    /// assert_eq!(rt; plan.bridges.len(), 1);
+    /// let mut bridge = Bridge::new(rt.alloc(), &plan, 1)?;
+    /// assert!(rt; bridge.has_port(1));
+    /// let wire = Bytes::from_static(b"\xff\xff\xff\xff\xff\xff\x02\0\0\0\0\x01\x08\0");
+    /// let (mark, hops, refused) = (None, 0, Refusals::new());
+    /// let outcome = bridge.receive(1, Item { mark, hops, wire });
+    /// assert_eq!(rt; outcome, Ok(Outcome::Relayed { chosen, refused }));
+    /// ```
     pub fn receive(&mut self, port: u8, item: Item) -> Result<Outcome, (BridgeFault, Item)>
         requires { is_used (port_at self.old.plan self.old.number port) ≡ true }
         ensures ok { IfOk result (λ outcome. HasReceived self.old port item outcome self.new) }

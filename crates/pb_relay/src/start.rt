@@ -271,6 +271,24 @@ impl Bridge {
     /// # Errors
     ///
     /// `Memory` if an allocation failed.
+    ///
+    /// # Examples
+    ///
+    /// ```
+    /// use pb_lan::PortState;
+    /// use pb_relay::Bridge;
+    /// use pb_service::read_plan;
+    ///
+    /// let file = b"
+    ///     bridge = [{ name = 'B1', address = '02-00-00-00-00-01' }]
+    ///     service = [{ name = 'red', vid = 100 }]
+    ///     port = [{ name = 'C1', bridge = 'B1', port = 1, service = 'red' }]";
+    /// let (plan, _) = read_plan(rt.alloc(), file)?;
+    /// assert_eq!(rt; plan.bridges.len(), 1);
+    /// let bridge = Bridge::new(rt.alloc(), &plan, 1)?;
+    /// assert_eq!(rt; bridge.shape()[0], PortState::Forwarding);
+    /// assert_eq!(rt; bridge.shape()[1], PortState::Discarding);
+    /// ```
     pub fn new(alloc: Global, plan: &Plan, number: u8) -> Result<Bridge, Memory>
         requires sound { IsSound plan.now }
         requires bridge { IsNumber number (length plan.now.bridges) }

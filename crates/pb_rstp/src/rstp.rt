@@ -82,6 +82,27 @@ impl Rstp {
     /// # Errors
     ///
     /// `Memory` if an allocation failed.
+    ///
+    /// # Examples
+    ///
+    /// ```
+    /// use pb_frame::{Mac, Seq};
+    /// use pb_rstp::{Config, Role, Rstp, RstpPort};
+    ///
+    /// let port = RstpPort {
+    ///     port: 1,
+    ///     cost: 20_000,
+    ///     priority: 128,
+    /// };
+    /// let config = Config {
+    ///     address: Mac([2, 0, 0, 0, 0, 1]),
+    ///     priority: 32_768,
+    ///     ports: Seq::from_vec(Vec::from_slice(rt.alloc(), &[port])?),
+    /// };
+    /// let bridge = Rstp::new(rt.alloc(), config)?;
+    /// assert_eq!(rt; bridge.root().root, 0x8000_0200_0000_0001);
+    /// assert_eq!(rt; bridge.roles(), [(1, Role::Designated)].as_slice());
+    /// ```
     pub fn new(alloc: Global, config: Config) -> Result<Rstp, Memory>
         requires { AreAbove 0 config.ports }
         ensures { IfOk result (λ rstp. rstp ≡ start false (bridge_id config.priority config.address.0) config.ports) }

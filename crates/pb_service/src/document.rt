@@ -94,14 +94,30 @@ pub fn read_plan_file(alloc: Global, file: &[u8]) -> Result<PlanFile, PlanFault>
 
 /// Reads a plan file. Returns the plan of its network and the kind of each customer port, in the order of the plan.
 ///
-/// The plan is sound (`IsSound`): its numbers are in range, its names, addresses and VIDs are distinct, and no local port
-/// is used twice.
+/// The plan is sound (`IsSound`): its numbers are in range, its names, addresses and VIDs are distinct, and no local
+/// port is used twice.
 ///
 /// # Errors
 ///
 /// `Memory` if an allocation failed. `Utf8` if the file isn't UTF-8, `Toml` if it isn't a TOML document. Otherwise the
 /// first rule that the file breaks. Keys at the top are checked first, then the tables in the order network, bridge,
 /// link, service, event, port. The keys of a table are checked in the order of the format, and unknown keys last.
+///
+/// # Examples
+///
+/// ```
+/// use pb_service::{PlanFault, read_plan};
+///
+/// let file = b"
+///     bridge = [{ name = 'B1', address = '02-00-00-00-00-01' }]
+///     service = [{ name = 'red', vid = 100 }]
+///     port = [{ name = 'C1', bridge = 'B1', port = 1, service = 'red' }]";
+/// let (plan, ports) = read_plan(rt.alloc(), file)?;
+/// assert_eq!(rt; (plan.bridges.len(), plan.ageing), (1, 300));
+/// assert_eq!(rt; ports.len(), 1);
+/// let refused = read_plan(rt.alloc(), b"ageing 300").err();
+/// assert_eq!(rt; refused, Some(PlanFault::Toml));
+/// ```
 pub fn read_plan(alloc: Global, file: &[u8]) -> Result<(Plan, Vec<PortSpec>), PlanFault>
     ensures plan { IfOk result (λ r. Tells file.now (λ document. IsPlanOf document r.0 r.1.items)) }
     ensures sound { IfOk result (λ r. IsSound r.0) }

@@ -200,6 +200,22 @@ fn read_words(
 /// # Errors
 ///
 /// `Memory` if an allocation failed.
+///
+/// # Examples
+///
+/// ```
+/// use pb_lan::Event;
+/// use pb_service::read_plan;
+/// use pb_step_script::{Names, read_line};
+///
+/// let file = b"bridge = [{ name = 'B1', address = '02-00-00-00-00-01' }]";
+/// let (plan, _) = read_plan(rt.alloc(), file)?;
+/// let names = Names::new(rt.alloc(), &plan)?;
+/// let event = read_line(rt.alloc(), 80, &names, b"tick B1")?;
+/// assert_eq!(rt; event, Some(Event::Tick { bridge: 1 }));
+/// let event = read_line(rt.alloc(), 80, &names, b"tick")?;
+/// assert_eq!(rt; event, None);
+/// ```
 pub fn read_line(
     alloc: Global,
     limit: usize,

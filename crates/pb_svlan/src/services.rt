@@ -320,6 +320,23 @@ impl Services {
     /// `Malformed` if the frame has fewer than 14 octets, otherwise `Long` if it has more than 1,992 (1,996 with a
     /// priority tag), otherwise `Reserved` if its destination is reserved, otherwise `STagged` if the type of a
     /// service tag follows the addresses of the frame without its priority tag.
+    ///
+    /// # Examples
+    ///
+    /// ```
+    /// use pb_frame::Reason;
+    /// use pb_svlan::{Entered, Services, Vid};
+    ///
+    /// let vid = Vid::new(100).ok_or("not a VID")?;
+    /// let mut services = Services::new(rt.alloc());
+    /// let red = services.add(rt.alloc(), "red", vid)?;
+    /// services.join(2, red, 5)?;
+    /// assert!(rt; services.vid_at(2).is_some());
+    /// let frame = b"\xff\xff\xff\xff\xff\xff\x02\0\0\0\0\x01\x08\0AB";
+    /// let (pcp, cut) = (5, false);
+    /// assert_eq!(rt; services.enter(2, frame), Ok(Entered { vid, pcp, cut }));
+    /// assert_eq!(rt; services.enter(2, b"AB"), Err(Reason::Malformed));
+    /// ```
     pub fn enter(&self, port: u8, frame: &[u8]) -> Result<Entered, Reason>
         requires { IsSome (vid_at self.now port) }
         ensures entered { IfOk result (IsEntered self.now port frame.now) }
