@@ -65,7 +65,8 @@ fn write_line<W: Write>(
     write_whole(writer, out.as_bytes())
 }
 
-/// Writes `error: port NAME: cannot VERB PATH: WHY` for a path that a port could not use. WHY is the error of the system.
+/// Writes `error: port NAME: cannot VERB PATH: WHY` for a path that a port could not use. WHY is the error of the
+/// system.
 ///
 /// # Errors
 ///
@@ -102,7 +103,8 @@ fn sharing(alloc: Global, customers: &[CustomerPlan], other: FileUser) -> Result
     }
 }
 
-/// Writes `error: port NAME: cannot VERB PATH: WHY` for the fault in opening the ports of a plan. Writes nothing for `Memory`.
+/// Writes `error: port NAME: cannot VERB PATH: WHY` for the fault in opening the ports of a plan. Writes nothing for
+/// `Memory`.
 ///
 /// # Errors
 ///

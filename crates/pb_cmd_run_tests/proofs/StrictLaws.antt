@@ -1,5 +1,6 @@
 -- The meaning of a strict run's exit status.
-use Rattle.std.proofs.Common.{◌≡◌, ◌⊎◌, ℕ, zero, suc, Bool, true, false, refl, sym, subst, ◌∙◌, List, [], ◌∷◌, Option, inl, inr}
+use Rattle.std.proofs.Common.{◌≡◌, ◌⊎◌, ℕ, zero, suc, Bool, true, false, refl, sym, subst, ◌∙◌, List, [], ◌∷◌, Option}
+use Rattle.std.proofs.Common.{inl, inr}
 use Rattle.std.proofs.Common.{IfOk}
 use Rattle.std.specs.declared.result.Result.{Result}
 use Rattle.pb_report.specs.Refusals.{PrintsRefusal}
@@ -61,15 +62,18 @@ neither status nil one = cc
 pub zero_carried : (file : List ℕ) (status : ℕ) (before after : Option (List ℕ)) → status ≡ 0
     → PrintsNetwork Strict file status before after → HasCarriedAll file
 zero_carried file status before after e prints =
-    by_case {A = (status ≡ 1) × PrintsRefusal file before after} {B = PrintsRunOf Strict file status before after} {C = HasCarriedAll file}
+    by_case {A = (status ≡ 1) × PrintsRefusal file before after} {B = PrintsRunOf Strict file status before after}
+    {C = HasCarriedAll file}
     prints (λ refusal. neither status e refusal.0) (λ run. of_run file status before after e run)
 
 -- the same for the result of a run over the octets of a text (used by `carry`)
-pub strict_carried : (strictness : Strictness) (file text : List ℕ) (before after : Option (List ℕ)) (r : Result ℕ NetworkFault)
+pub strict_carried : (strictness : Strictness) (file text : List ℕ) (before after : Option (List ℕ))
+    (r : Result ℕ NetworkFault)
     → file ≡ text → IfOk r (λ status. PrintsNetwork strictness file status before after) → strictness ≡ Strict
     → IfOk r (λ status. status ≡ 0 → HasCarriedAll text)
 strict_carried strictness file text before after r same p strict =
-    on_value {P = λ status. PrintsNetwork strictness file status before after} {Q = λ status. status ≡ 0 → HasCarriedAll text} r
+    on_value {P = λ status. PrintsNetwork strictness file status before after}
+    {Q = λ status. status ≡ 0 → HasCarriedAll text} r
     (λ status prints e. subst HasCarriedAll same (zero_carried file status before after e
     (subst (λ s. PrintsNetwork s file status before after) strict prints)))
     p

@@ -39,7 +39,8 @@ stream_behind_parts p q m n front ys (f ∷ fs) fault pass (r, front', part, res
   omega arith,
 )
 
-reads_on : (p q : StreamPosition) (xs ys : List ℕ) (fs : Frames) (s u t : ℕ) (fault : Option PortFault) → Reached p xs q ys s u
+reads_on : (p q : StreamPosition) (xs ys : List ℕ) (fs : Frames) (s u t : ℕ) (fault : Option PortFault)
+    → Reached p xs q ys s u
     → (n : ℕ) × IsStream q ys fs n fault × (t ≡ held_sum u n) → (n : ℕ) × IsStream p xs fs n fault × (t ≡ held_sum s n)
 reads_on p q xs ys fs s u t fault (m, front, pass, e, counted) (n, stream, counted') =
     let P : List ℕ → Type 0 = λ z. IsStream p z fs (m + n) fault in (
@@ -48,7 +49,8 @@ reads_on p q xs ys fs s u t fault (m, front, pass, e, counted) (n, stream, count
       counted' ∙ ap (λ z. held_sum z n) counted ∙ held_sum-twice s m n,
     )
 
-reads_frame : (p q : StreamPosition) (xs ys f : List ℕ) (fs : Frames) (s u t : ℕ) (fault : Option PortFault) → Given p xs q ys s u f
+reads_frame : (p q : StreamPosition) (xs ys f : List ℕ) (fs : Frames) (s u t : ℕ) (fault : Option PortFault)
+    → Given p xs q ys s u f
     → (n : ℕ) × IsStream q ys fs n fault × (t ≡ held_sum u n) → (n : ℕ) × IsStream p xs (f ∷ fs) n fault
     × (t ≡ held_sum s n)
 reads_frame p q xs ys f fs s u t fault (m, front, part, pass, is, e, counted) (n, stream, counted') = (
@@ -57,7 +59,8 @@ reads_frame p q xs ys f fs s u t fault (m, front, part, pass, is, e, counted) (n
   counted' ∙ ap (λ z. held_sum z n) counted ∙ held_sum-twice s m n,
 )
 
-reads_end : (p q : StreamPosition) (xs ys : List ℕ) (s t : ℕ) (fault : Option PortFault) → Reached p xs q ys s t → Ends q ys fault
+reads_end : (p q : StreamPosition) (xs ys : List ℕ) (s t : ℕ) (fault : Option PortFault) → Reached p xs q ys s t
+    → Ends q ys fault
     → (n : ℕ) × IsStream p xs [] n fault × (t ≡ held_sum s n)
 reads_end p q xs ys s t fault (m, front, pass, e, counted) ends = (m, (q, front, ys, pass, e, ends), counted)
 

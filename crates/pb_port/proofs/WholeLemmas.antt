@@ -31,7 +31,8 @@ record_same order a b x y is is' e =
     let same : captured order a ≡ captured order b = sym here ∙ ap (λ z. captured order z) e ∙ there in
     append_parts a b x y (omega arith) e
 
-frame_same : (p : StreamPosition) (a b f g x y : List ℕ) → IsFrame p a f → IsFrame p b g → a ++ x ≡ b ++ y → (f ≡ g) × (x ≡ y)
+frame_same : (p : StreamPosition) (a b f g x y : List ℕ) → IsFrame p a f → IsFrame p b g → a ++ x ≡ b ++ y
+    → (f ≡ g) × (x ≡ y)
 frame_same Header a b f g x y is is' e = absurd is
 frame_same (Records order) a b f g x y is is' e =
     let parts = record_same order a b x y is.whole is'.whole e in
@@ -79,7 +80,8 @@ frame_long (Records order) a f is = omega (arith, is.whole)
 frame_long Lengths a f is = omega arith
 
 -- if the input ends or has a fault, no complete part is at its front
-ends_short : (p : StreamPosition) (rest a x : List ℕ) (fault : Option PortFault) → Ends p rest fault → rest ≡ a ++ x → 0 < length a
+ends_short : (p : StreamPosition) (rest a x : List ℕ) (fault : Option PortFault) → Ends p rest fault → rest ≡ a ++ x
+    → 0 < length a
     → fault_at p (a ++ x) ≡ None → ⊥
 ends_short p rest a x fault (here, none) e long sound =
     let is_none : fault ≡ None = sym here ∙ ap (λ z. fault_at p z) e ∙ sound in
@@ -181,7 +183,8 @@ passes_same Lengths Header q' m n xs ys rest rest' a b stop stop' e = absurd a
 passes_same Lengths (Records o) q' m n xs ys rest rest' a b stop stop' e = absurd a
 
 -- one reading cannot end at a position at which the other has a frame
-end_or_frame : (p q q' : StreamPosition) (m n : ℕ) (xs ys rest part rest' f : List ℕ) (fault : Option PortFault) → Passes p xs q m
+end_or_frame : (p q q' : StreamPosition) (m n : ℕ) (xs ys rest part rest' f : List ℕ) (fault : Option PortFault)
+    → Passes p xs q m
     → Passes p ys q' n
     → Ends q rest fault → IsFrame q' part f → xs ++ rest ≡ ys ++ (part ++ rest') → ⊥
 end_or_frame p q q' m n xs ys rest part rest' f fault pass pass' ends is e =

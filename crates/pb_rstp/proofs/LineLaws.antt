@@ -126,7 +126,8 @@ settled_in_line prompt id hello_when heard ports =
 pub calls_keep_line : (machine : Machine) (cause : Cause) → IsInLine machine → IsInLine (after machine cause).machine
 calls_keep_line machine cause h =
     after-each (λ a. IsInLine a.machine) machine h
-    (λ hello_when heard change same. settled_in_line machine.prompt machine.id hello_when heard (moved_by change machine.ports)) cause
+    (λ hello_when heard change same. settled_in_line machine.prompt machine.id hello_when heard
+    (moved_by change machine.ports)) cause
 
 -- The start.
 

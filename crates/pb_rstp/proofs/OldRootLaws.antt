@@ -200,7 +200,8 @@ held_settled prompt id heard ps ms h roles =
     (λ was now f. held-if (is_sending now) was (record now { new_info = false; tx_count = now.tx_count + 1 }) now f f)
     (settled prompt id heard ms) seventh
 
-pub settle_old_roots : (prompt : Bool) (id hello_when hello_when_now : ℕ) (heard : Option Heard) (ps : List Port) (ms : List Moving)
+pub settle_old_roots : (prompt : Bool) (id hello_when hello_when_now : ℕ) (heard : Option Heard) (ps : List Port)
+    (ms : List Moving)
     → AreMoving ps ms
     → IsInLine (record { id = id; prompt = prompt; ports = ps; hello_when = hello_when })
     → HoldsOldRoots (record { id = id; prompt = prompt; ports = ps; hello_when = hello_when })

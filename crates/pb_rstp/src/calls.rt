@@ -112,7 +112,8 @@ impl Rstp {
     ) -> Result<Change, Memory>
         requires { AreMoving self.old.ports ports.now }
         ensures ok { OnOk result (self.new ≡ (settle self.old.prompt self.old.id hello_when heard ports.now).machine) }
-        ensures change { IfOk result (λ change. change ≡ (settle self.old.prompt self.old.id hello_when heard ports.now).change) }
+        ensures change { IfOk result (λ change. change
+            ≡ (settle self.old.prompt self.old.id hello_when heard ports.now).change) }
         ensures same { OnOk result (IsSameBridge self.old self.new) }
         ensures old_roots { OnOk result (HoldsOldRoots self.old self.new) }
         ensures named { IfOk result (λ change. NamesChanges self.old self.new change) }

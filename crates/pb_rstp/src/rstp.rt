@@ -20,8 +20,8 @@ use std::marker::Model;
 
 /// The rapid spanning tree protocol at one bridge (IEEE 802.1D-2004 clause 17, in a profile).
 ///
-/// Contracts see the bridge's identifier, whether it is prompt, the variables of each port, and `hello_when`. Each port always has the role
-/// that follows from the root vector, and only Root and Designated ports do more than discard.
+/// Contracts see the bridge's identifier, whether it is prompt, the variables of each port, and `hello_when`. Each port
+/// always has the role that follows from the root vector, and only Root and Designated ports do more than discard.
 #[derive(Drop)]
 pub struct Rstp {
     pub(crate) alloc: Global,

@@ -26,8 +26,8 @@ fn put_unsettled(out: &mut String, settled: &Result<Option<bool>, Memory>) -> Re
 ///
 /// Each customer port has a line `port NAME: N frames not written`, which counts the frames that its port took and
 /// still holds and those that came to it after a write had failed. The lines of [`put_losses`] follow. The last line is
-/// `bridges not converged` if the bridges decide the states of ports and have not converged (IEEE 802.1D-2004 clause 17).
-/// A count of 0 has no line.
+/// `bridges not converged` if the bridges decide the states of ports and have not converged (IEEE 802.1D-2004 clause
+/// 17). A count of 0 has no line.
 ///
 /// # Errors
 ///

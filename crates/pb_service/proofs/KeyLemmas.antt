@@ -37,7 +37,8 @@ some_at P (k ∷ ks) zero d h p = inl p
 some_at P (k ∷ ks) (suc i) d h p = inr (some_at P ks i d (omega arith) p)
 
 -- the fault of a refused key refuses its table (used by `refused_at`)
-pub refuses_told : (keys : List KeyRule) (key_table : KeyTable) (row : Members) (f : KeyFault) (path : List ℕ) (e : PlanFault)
+pub refuses_told : (keys : List KeyRule) (key_table : KeyTable) (row : Members) (f : KeyFault) (path : List ℕ)
+    (e : PlanFault)
     → RefusesKey keys key_table row f path → (e ≡ Memory) ⊎ (e ≡ fault_of f path) → RefusesRow keys key_table row e
 refuses_told keys key_table row Missing path e h (inl m) = rw m tt
 refuses_told keys key_table row Missing path e h (inr t) = rw t h

@@ -66,7 +66,8 @@ fn trace_on<R: Files + Eprint + AllocGlobal, W: Write>(
     }
 }
 
-/// Returns the arguments of the frame with this index, as the help names them. The first frame has arguments of its own.
+/// Returns the arguments of the frame with this index, as the help names them. The first frame has arguments of its
+/// own.
 fn given_by(index: usize, first: &'static str) -> &'static str {
     if index == 0 {
         first

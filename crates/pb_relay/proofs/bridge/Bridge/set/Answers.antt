@@ -18,7 +18,8 @@ use Rattle.pb_history.specs.StepLists.{with_step as steps_with}
 use Rattle.pb_relay.proofs.bridge.Bridge.set.Goals as goal
 
 pub index_of-place-requires : goal.index_of-place-requires
-index_of-place-requires c = (linked_there c.self.inside c.args.port c.self.invariant c.self.view_is c.requires.provider).0
+index_of-place-requires c =
+    (linked_there c.self.inside c.args.port c.self.invariant c.self.view_is c.requires.provider).0
 
 pub at-requires : goal.at-requires
 at-requires c =

@@ -28,7 +28,8 @@ invariant_of-self c = record {
       c.self.invariant.by_number);
   in_line = subst
       (λ (ports : List Port). let machine : Machine =
-      record { id = c.self.inside.id; prompt = c.self.inside.prompt; ports = ports; hello_when = c.args.hello_when } in IsInLine machine)
+      record { id = c.self.inside.id; prompt = c.self.inside.prompt; ports = ports; hello_when = c.args.hello_when }
+      in IsInLine machine)
       (sym c.in_ok-settled.ensures.ports)
       (settled_in_line c.self.inside.prompt c.self.inside.id c.args.hello_when c.args.heard c.args.ports.now);
 }
@@ -36,9 +37,11 @@ invariant_of-self c = record {
 pub returns-clause-ok : goal.returns-clause-ok
 returns-clause-ok c =
     ap (λ (ports : List Port). let machine : Machine =
-    record { id = c.self.inside.id; prompt = c.self.inside.prompt; ports = ports; hello_when = c.args.hello_when } in machine)
+    record { id = c.self.inside.id; prompt = c.self.inside.prompt; ports = ports; hello_when = c.args.hello_when }
+    in machine)
     c.in_ok-settled.ensures.ports
-    ∙ ap (λ (m : Machine). (settle m.prompt m.id c.args.hello_when c.args.heard c.args.ports.now).machine) c.self.view_is
+    ∙ ap (λ (m : Machine). (settle m.prompt m.id c.args.hello_when c.args.heard c.args.ports.now).machine)
+    c.self.view_is
 
 pub returns-clause-change : goal.returns-clause-change
 returns-clause-change c =
@@ -54,7 +57,8 @@ returns-clause-same c =
       hello_when = c.args.hello_when;
     }))
     c.self.view_is c.in_ok-settled.ensures.ports
-    (settle_same c.self.inside.prompt c.self.inside.id c.self.inside.hello_when c.args.hello_when c.args.heard c.self.inside.ports.items
+    (settle_same c.self.inside.prompt c.self.inside.id c.self.inside.hello_when c.args.hello_when c.args.heard
+    c.self.inside.ports.items
     c.args.ports.now (subst (λ (m : Machine). AreMoving m.ports c.args.ports.now) (sym c.self.view_is) c.requires))
 
 pub returns-clause-old_roots : goal.returns-clause-old_roots
@@ -74,12 +78,14 @@ returns-clause-old_roots c =
 pub returns-clause-named : goal.returns-clause-named
 returns-clause-named c =
     let R : Change → Machine → List Port → Type 0 = λ change m ports. NamesChanges m
-    (record { id = c.self.inside.id; prompt = c.self.inside.prompt; ports = ports; hello_when = c.args.hello_when }) change in
+    (record { id = c.self.inside.id; prompt = c.self.inside.prompt; ports = ports; hello_when = c.args.hello_when })
+    change in
     subst (λ (change : Change). R change c.args.self.now c.in_ok-settled.settled.ports.items)
     (sym c.in_ok-settled.ensures.change)
     (as_called (R (settle c.self.inside.prompt c.self.inside.id c.args.hello_when c.args.heard c.args.ports.now).change)
     c.self.view_is c.in_ok-settled.ensures.ports
-    (settle_named c.self.inside.prompt c.self.inside.id c.self.inside.hello_when c.args.hello_when c.args.heard c.self.inside.ports.items
+    (settle_named c.self.inside.prompt c.self.inside.id c.self.inside.hello_when c.args.hello_when c.args.heard
+    c.self.inside.ports.items
     c.args.ports.now (subst (λ (m : Machine). AreMoving m.ports c.args.ports.now) (sym c.self.view_is) c.requires)
     c.self.invariant.by_number))
 
@@ -87,6 +93,7 @@ pub returns-clause-in_line : goal.returns-clause-in_line
 returns-clause-in_line c =
     subst
     (λ (ports : List Port). let machine : Machine =
-    record { id = c.self.inside.id; prompt = c.self.inside.prompt; ports = ports; hello_when = c.args.hello_when } in IsInLine machine)
+    record { id = c.self.inside.id; prompt = c.self.inside.prompt; ports = ports; hello_when = c.args.hello_when }
+    in IsInLine machine)
     (sym c.in_ok-settled.ensures.ports)
     (settled_in_line c.self.inside.prompt c.self.inside.id c.args.hello_when c.args.heard c.args.ports.now)

@@ -22,5 +22,6 @@ invariant_of-result c = record {
         hello_when = 2;
       } in IsInLine machine)
       (sym (c.in_ok-ports.ensures ∙ ap (λ ports. map fresh ports) c.as_slice.ensures))
-      (start_is_in_line c.args.prompt c.bridge_id-id.result c.args.config.ports (above_zero 0 c.args.config.ports c.requires));
+      (start_is_in_line c.args.prompt c.bridge_id-id.result c.args.config.ports
+      (above_zero 0 c.args.config.ports c.requires));
 }
