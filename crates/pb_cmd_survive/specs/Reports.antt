@@ -134,14 +134,14 @@ slowest from base (o ∷ os) = max (quiet_ticks from base o) (slowest from base 
 
 -- failures that change nothing are counted
 abbrev pub quiet_count_line : ℕ → ℕ → ℕ → List ℕ
-quiet_count_line quiet all ticks = decimal quiet ++ codes " of " ++ decimal all ++ codes " failures disconnect nothing, ticks at most " ++ decimal ticks ++ 10 ∷ []
+quiet_count_line quiet all ticks = decimal quiet ++ codes " of " ++ decimal all ++ codes " failures split nothing, ticks at most " ++ decimal ticks ++ 10 ∷ []
 
 abbrev pub quiet_line : ℕ → ℕ → ℕ → List ℕ
 quiet_line quiet all ticks = if quiet == 0 then [] else quiet_count_line quiet all ticks
 
 -- and so are those that part a service
 abbrev pub parting_count_line : ℕ → ℕ → List ℕ
-parting_count_line parting all = decimal parting ++ codes " of " ++ decimal all ++ codes " failures disconnect a service" ++ 10 ∷ []
+parting_count_line parting all = decimal parting ++ codes " of " ++ decimal all ++ codes " failures split a service" ++ 10 ∷ []
 
 abbrev pub verdict_line : ℕ → ℕ → List ℕ
 verdict_line parting all = if parting == 0 then codes "survives every single failure" ++ 10 ∷ [] else parting_count_line parting all

@@ -294,7 +294,7 @@ fn put_impacts(
 }
 
 /// Puts the report on a network with nothing down, and under failures, behind a text, and answers how many of the
-/// failures disconnect a service.
+/// failures split a service.
 ///
 /// First comes what is so with nothing down: whether the bridges settled and after how many ticks, whether the active
 /// links are a forest for each service, and the groups of each service's customer ports. Then each failure that changes

@@ -23,7 +23,7 @@ const SETTLED: &[Choice] = choices![
 const SURVIVES: &[Choice] = choices![("every single failure", Said::Yes),];
 
 /// Some do.
-const PARTS: &[Choice] = choices![(" failures disconnect a service", Said::No),];
+const PARTS: &[Choice] = choices![(" failures split a service", Said::No),];
 
 /// With nothing down.
 const CALM: &[Slot] = slots![
@@ -87,7 +87,7 @@ const QUIET: &[Slot] = slots![
     (
         "failures_tried",
         Kind::Number,
-        " failures disconnect nothing, ticks at most "
+        " failures split nothing, ticks at most "
     ),
     ("most_ticks", Kind::Number, ""),
 ];
