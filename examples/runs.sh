@@ -209,19 +209,19 @@ cp examples/captures/provider.pcap "$keep"
 rm -f out/made.pcap out/none.sock
 begin "a capture is kept if a socket is missing"
 plan "$(capture "$none" "$keep")" "$(socket out/none.sock)" >out/refused.toml
-refuses "error: port C2: cannot connect to out/none.sock: No such file or directory (os error 2)"
+refuses "error: port C2: connect out/none.sock: No such file or directory (os error 2)"
 same "$keep" examples/captures/provider.pcap
 begin "a capture is kept that is read too"
 plan "$(capture "$keep" ./out//keep.pcap)" >out/refused.toml
-refuses "error: port C1: cannot write ./out//keep.pcap: also read by port C1"
+refuses "error: port C1: write ./out//keep.pcap: also read by port C1"
 same "$keep" examples/captures/provider.pcap
 begin "a capture is kept that two ports write"
 plan "$(capture "$none" "$keep")" "$(capture examples/captures/camera.pcap "out/../$keep")" >out/refused.toml
-refuses "error: port C2: cannot write out/../$keep: also written by port C1"
+refuses "error: port C2: write out/../$keep: also written by port C1"
 same "$keep" examples/captures/provider.pcap
 begin "a capture is not made if another can't be"
 plan "$(capture "$none" out/made.pcap)" "$(capture "$none" out/none/c2.pcap)" >out/refused.toml
-refuses "error: port C2: cannot write out/none/c2.pcap: No such file or directory (os error 2)"
+refuses "error: port C2: write out/none/c2.pcap: No such file or directory (os error 2)"
 missing out/made.pcap
 
 ln -sf refused.toml out/refused.link
@@ -229,7 +229,7 @@ for it in out/refused.toml out/refused.link; do
     begin "a port that writes the plan file, as $it"
     plan "$(capture "$none" "$it")" >out/refused.toml
     cp out/refused.toml out/refused.kept
-    refuses "error: port C1: cannot write $it: also the plan file"
+    refuses "error: port C1: write $it: also the plan file"
     same out/refused.toml out/refused.kept
 done
 # (the gate refuses a folder with links)
@@ -238,7 +238,7 @@ rm -f out/refused.link
 begin "a socket is removed if a later file is missing"
 rm -f out/made.sock
 plan 'kind = "socket"\nlisten = "out/made.sock"' "$(capture out/none.pcap out/made.pcap)" >out/refused.toml
-refuses "error: port C2: cannot read out/none.pcap: No such file or directory (os error 2)"
+refuses "error: port C2: read out/none.pcap: No such file or directory (os error 2)"
 missing out/made.sock
 missing out/made.pcap
 

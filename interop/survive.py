@@ -122,8 +122,8 @@ def report(plan):
             lines += [] if views[s][0] else [f"  loop {s}"]
             lines += [shown(s, views[s][1])] if parted[s] else []
     if quiet:
-        lines.append(f"{quiet} of {len(failures)} failures disconnect nothing, ticks at most N")
-    lines.append(f"{parting} of {len(failures)} failures disconnect a service" if parting else "survives every single failure")
+        lines.append(f"{quiet} of {len(failures)} failures split nothing, ticks at most N")
+    lines.append(f"{parting} of {len(failures)} failures split a service" if parting else "survives every single failure")
     return "\n".join(lines) + "\n", 4 if parting else 0
 
 

@@ -444,7 +444,7 @@ class Told:
             kept = [it for it in proof.ran.said.splitlines() if it.strip() and not QUIET.match(it)]
             print(*kept[-60:], sep="\n", file=sys.stderr, flush=True)
         elif proof.is_kept and not self.is_terminal:
-            self.line(f"{proof.name}: its proof is kept, since what is stated below it is what it was")
+            self.line(f"{proof.name}: its proof is cached")
         elif not self.is_terminal:
             self.line(f"{proof.name} proved: {proof.functions or 0:,} functions, {proof.ran.wall:.0f} s")
 

@@ -10,11 +10,10 @@ use std::alloc::{AllocError, Global};
 const DOWN: &str = "Disable port PORT of BRIDGE first; repeat it to disable both ends of a link";
 
 /// The help of `--format` for text and JSON.
-const DOCUMENT: &str = "Print the report as text or as one JSON document [default: text]";
+const DOCUMENT: &str = "Format of the report [default: text]";
 
 /// The help of `--format` for text, JSON and CSV.
-const TABLE: &str =
-    "Print the report as text, as one JSON document, or its table as CSV [default: text]";
+const TABLE: &str = "Format of the report; csv prints its table alone [default: text]";
 
 /// The form in which a report is printed.
 #[derive(Clone, Copy, PartialEq, Eq, Debug)]

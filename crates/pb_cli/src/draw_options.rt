@@ -19,7 +19,7 @@ const SERVICE: &str = "Highlight this service and its tree";
 const OUTPUT: &str = "Write the picture to this file [default: standard output]";
 
 /// The help of `--format`.
-const FORMAT: &str = "Draw a standalone SVG picture or a graph for Graphviz [default: svg]";
+const FORMAT: &str = "Format of the picture; dot is a graph for Graphviz [default: svg]";
 
 /// The arguments of `draw`.
 pub(crate) const ARGUMENTS: &[Argument] = &[

@@ -20,13 +20,12 @@ name_at (customer ∷ customers) (suc place) = name_at customers place
 abbrev pub word_of : Verb → List ℕ
 word_of Read = codes "read"
 word_of Write = codes "write"
-word_of Connect = codes "connect to"
-word_of Listen = codes "listen on"
+word_of Connect = codes "connect"
+word_of Listen = codes "listen"
 
 -- the line with a port's name, the use that it makes of a path, and why it could not
 abbrev pub path_line : List ℕ → List ℕ → List ℕ → List ℕ → List ℕ
-path_line name word path why =
-    codes "error: port " ++ name ++ codes ": cannot " ++ word ++ codes " " ++ path ++ codes ": " ++ why ++ 10 ∷ []
+path_line name word path why = codes "port " ++ name ++ codes ": " ++ word ++ codes " " ++ path ++ codes ": " ++ why ++ 10 ∷ []
 
 -- the text about the other user of a file
 abbrev pub sharing : List CustomerPlan → FileUser → List ℕ

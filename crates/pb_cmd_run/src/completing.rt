@@ -4,7 +4,7 @@ ghost use Rattle.std.specs.Prelude.{◌≡◌, OnOk};
 ghost use Rattle.std.specs.Io.KnownBytes.{Appends};
 ghost use Rattle.pb_port.specs.Spelling.{file_header};
 
-use crate::telling::{name_at, write_path_fault};
+use crate::telling::{name_at, show_path_fault};
 use pb_frame::Text;
 use pb_lan::CustomerPlan;
 use pb_run_ports::Verb;
@@ -71,7 +71,7 @@ pub(crate) fn complete_all<E: Write>(
         if let Err(error) = complete(&written.file) {
             let name = name_at(customers, written.place);
             let path = written.write.as_str();
-            let _ = write_path_fault(alloc, name, Verb::Write, path, &error, errors);
+            show_path_fault(alloc, name, Verb::Write, path, &error, errors);
         }
     }
 }

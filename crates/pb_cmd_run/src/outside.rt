@@ -11,7 +11,7 @@ use crate::input::Input;
 use crate::network_fault::NetworkFault;
 use crate::peer::{Peer, SocketFile, remove_sockets};
 use crate::system::{Output, System};
-use crate::telling::write_open_fault;
+use crate::telling::show_open_fault;
 use crate::watched::Watched;
 use bytes::Bytes;
 use pb_frame::Seq;
@@ -223,7 +223,7 @@ fn open_system<R: Files<File = File> + Net, E: Write>(
         }
         Err(fault) => {
             remove_sockets(rt, system.sockets.as_slice());
-            let _ = write_open_fault(alloc, plan.customers.as_slice(), &fault, errors);
+            show_open_fault(alloc, plan.customers.as_slice(), &fault, errors);
             Err(NetworkFault::from(fault))
         }
     }

@@ -11,6 +11,9 @@ use pb_run_ports::{FileUser, OpenFault, Verb};
 use std::alloc::{AllocError, Global};
 use std::io::{Error, Write};
 
+/// The text before the line of a fault.
+const PREFIX: &str = "error: ";
+
 /// Returns the name of the customer port at a place of the plan, from 0, or the empty text if there is none.
 #[tactic(auto, using(crate::proofs::TellingLemmas::named, crate::proofs::TellingLemmas::unnamed))]
 pub(crate) fn name_at(customers: &[CustomerPlan], place: usize) -> &str
@@ -30,8 +33,8 @@ fn word_of(verb: Verb) -> &'static str
     match verb {
         Verb::Read => "read",
         Verb::Write => "write",
-        Verb::Connect => "connect to",
-        Verb::Listen => "listen on",
+        Verb::Connect => "connect",
+        Verb::Listen => "listen",
     }
 }
 
@@ -40,7 +43,7 @@ fn put_line(out: &mut String, name: &str, word: &str, path: &str, why: &str) -> 
     ensures { OnOk result (string_bytes out.new ≡ string_bytes out.old
         ++ path_line name.now word.now path.now why.now) }
 {
-    writeln!(out, "error: port {name}: cannot {word} {path}: {why}")?;
+    writeln!(out, "port {name}: {word} {path}: {why}")?;
     Ok(())
 }
 
@@ -65,7 +68,7 @@ fn write_line<W: Write>(
     write_whole(writer, out.as_bytes())
 }
 
-/// Writes `error: port NAME: cannot VERB PATH: WHY` for a path that a port could not use. WHY is the error of the
+/// Writes `port NAME: VERB PATH: WHY` for a path that a port could not use. WHY is the error of the
 /// system.
 ///
 /// # Errors
@@ -103,7 +106,7 @@ fn sharing(alloc: Global, customers: &[CustomerPlan], other: FileUser) -> Result
     }
 }
 
-/// Writes `error: port NAME: cannot VERB PATH: WHY` for the fault in opening the ports of a plan. Writes nothing for
+/// Writes `port NAME: VERB PATH: WHY` for the fault in opening the ports of a plan. Writes nothing for
 /// `Memory`.
 ///
 /// # Errors
@@ -129,5 +132,37 @@ pub(crate) fn write_open_fault<W: Write>(
             write_line(alloc, name, word, f.path.as_str(), why.as_str(), writer)
         }
         OpenFault::Memory => Ok(()),
+    }
+}
+
+/// Writes `error: ` and the line of [`write_path_fault`]. Nothing reports a failed write.
+pub(crate) fn show_path_fault<W: Write>(
+    alloc: Global,
+    name: &str,
+    verb: Verb,
+    path: &str,
+    error: &Error,
+    writer: &mut W,
+) {
+    if write_whole(writer, PREFIX.as_bytes()).is_ok() {
+        let _ = write_path_fault(alloc, name, verb, path, error, writer);
+    }
+}
+
+/// Writes `error: ` and the line of [`write_open_fault`], and nothing if an allocation failed. Nothing reports a failed
+/// write.
+pub(crate) fn show_open_fault<W: Write>(
+    alloc: Global,
+    customers: &[CustomerPlan],
+    fault: &OpenFault,
+    writer: &mut W,
+) {
+    match fault {
+        OpenFault::Memory => {}
+        _ => {
+            if write_whole(writer, PREFIX.as_bytes()).is_ok() {
+                let _ = write_open_fault(alloc, customers, fault, writer);
+            }
+        }
     }
 }

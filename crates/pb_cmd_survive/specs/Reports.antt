@@ -141,7 +141,7 @@ slowest from base (o ∷ os) = max (quiet_ticks from base o) (slowest from base 
 
 -- the number of failures without effect
 abbrev pub quiet_count_line : ℕ → ℕ → ℕ → List ℕ
-quiet_count_line quiet all ticks = decimal quiet ++ codes " of " ++ decimal all ++ codes " failures disconnect nothing, ticks at most " ++ decimal ticks ++ 10 ∷ []
+quiet_count_line quiet all ticks = decimal quiet ++ codes " of " ++ decimal all ++ codes " failures split nothing, ticks at most " ++ decimal ticks ++ 10 ∷ []
 
 -- that line, if there are such failures
 abbrev pub quiet_line : ℕ → ℕ → ℕ → List ℕ
@@ -149,7 +149,7 @@ quiet_line quiet all ticks = if quiet == 0 then [] else quiet_count_line quiet a
 
 -- the number of failures that disconnect a service
 abbrev pub parting_count_line : ℕ → ℕ → List ℕ
-parting_count_line parting all = decimal parting ++ codes " of " ++ decimal all ++ codes " failures disconnect a service" ++ 10 ∷ []
+parting_count_line parting all = decimal parting ++ codes " of " ++ decimal all ++ codes " failures split a service" ++ 10 ∷ []
 
 -- that line, or that no failure disconnects a service
 abbrev pub verdict_line : ℕ → ℕ → List ℕ

@@ -293,7 +293,7 @@ fn put_impacts(
     Ok(())
 }
 
-/// Appends the report on a network with nothing down and under failures. Returns how many of the failures disconnect a
+/// Appends the report on a network with nothing down and under failures. Returns how many of the failures split a
 /// service.
 ///
 /// First come the lines of the network with nothing down: whether the bridges converged and after how many ticks of

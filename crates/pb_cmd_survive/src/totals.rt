@@ -15,7 +15,7 @@ fn put_quiet_count(out: &mut String, quiet: usize, all: usize, ticks: u32) -> Re
 {
     writeln!(
         out,
-        "{quiet} of {all} failures disconnect nothing, ticks at most {ticks}"
+        "{quiet} of {all} failures split nothing, ticks at most {ticks}"
     )?;
     Ok(())
 }
@@ -34,7 +34,7 @@ fn put_quiet(out: &mut String, quiet: usize, all: usize, ticks: u32) -> Result<(
 fn put_parting_count(out: &mut String, parting: usize, all: usize) -> Result<(), Memory>
     ensures { OnOk result (string_bytes out.new ≡ string_bytes out.old ++ parting_count_line parting all) }
 {
-    writeln!(out, "{parting} of {all} failures disconnect a service")?;
+    writeln!(out, "{parting} of {all} failures split a service")?;
     Ok(())
 }
 

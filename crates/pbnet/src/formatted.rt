@@ -13,7 +13,9 @@ use std::{io, str};
 #[derive(Drop)]
 pub(crate) struct Output<'a, R> {
     rt: &'a R,
+    /// The form of the report.
     format: ReportFormat,
+    /// The octets written so far, if the report becomes a document.
     kept: Vec<u8>,
 }
 

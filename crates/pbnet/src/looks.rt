@@ -10,8 +10,11 @@ pub struct Looks<'a, R> {
     rt: &'a R,
     /// Whether progress is reported.
     is_shown: bool,
+    /// The failures that were analysed.
     looked: AtomicU64,
+    /// The second of the monotonic clock of the latest report.
     second: AtomicU64,
+    /// 1 if a line was written and not ended, else 0.
     lines: AtomicU64,
 }
 

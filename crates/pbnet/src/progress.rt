@@ -26,11 +26,15 @@ pub enum Shown {
 #[derive(Drop)]
 pub struct RunMonitor<'a, R> {
     rt: &'a R,
+    /// The counters of the run.
     traffic: Arc<Traffic, Global>,
+    /// How progress is reported.
     shown: Shown,
     /// The time of the monotonic clock at which the run is stopped. None: no limit.
     end: Option<Duration>,
+    /// The second of the monotonic clock of the latest report.
     second: AtomicU64,
+    /// 1 if a line was written and not ended, else 0.
     lines: AtomicU64,
 }
 

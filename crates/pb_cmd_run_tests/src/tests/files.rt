@@ -184,56 +184,56 @@ const REFUSED: &[Refused] = &[
     Refused {
         path: "plan.toml",
         plan: PATHS,
-        told: b"error: port P2: cannot connect to paths.none: No such file or directory (os error 2)\n",
+        told: b"error: port P2: connect paths.none: No such file or directory (os error 2)\n",
         missing: "paths.last",
     },
     // One path is read and written: the input is not emptied.
     Refused {
         path: "plan.toml",
         plan: SAME,
-        told: b"error: port P1: cannot write .//paths.in: also read by port P1\n",
+        told: b"error: port P1: write .//paths.in: also read by port P1\n",
         missing: "paths.last",
     },
     // Two names of one file.
     Refused {
         path: "plan.toml",
         plan: LINKED,
-        told: b"error: port P1: cannot write again.in: also read by port P1\n",
+        told: b"error: port P1: write again.in: also read by port P1\n",
         missing: "paths.last",
     },
     // Two ports write one file that is not there.
     Refused {
         path: "plan.toml",
         plan: TWICE,
-        told: b"error: port P2: cannot write ./paths.last: also written by port P1\n",
+        told: b"error: port P2: write ./paths.last: also written by port P1\n",
         missing: "paths.last",
     },
     // The second output can't be made: the first, which was made, is removed.
     Refused {
         path: "plan.toml",
         plan: UNMADE,
-        told: b"error: port P2: cannot write paths.none/out: No such file or directory (os error 2)\n",
+        told: b"error: port P2: write paths.none/out: No such file or directory (os error 2)\n",
         missing: "paths.last",
     },
     // A port writes the plan file: it is not emptied.
     Refused {
         path: ".//paths.out",
         plan: OVER,
-        told: b"error: port P1: cannot write paths.out: also the plan file\n",
+        told: b"error: port P1: write paths.out: also the plan file\n",
         missing: "paths.last",
     },
     // A port writes the plan file by another name.
     Refused {
         path: "paths.again",
         plan: OVER,
-        told: b"error: port P1: cannot write paths.out: also the plan file\n",
+        told: b"error: port P1: write paths.out: also the plan file\n",
         missing: "paths.last",
     },
     // A file to read is missing after a socket that was made.
     Refused {
         path: "plan.toml",
         plan: UNLISTENED,
-        told: b"error: port P1: cannot read paths.none: No such file or directory (os error 2)\n",
+        told: b"error: port P1: read paths.none: No such file or directory (os error 2)\n",
         missing: "paths.last",
     },
 ];
@@ -275,7 +275,7 @@ fn files_to_read_are_opened_before_any_is_made(rt: HostRuntime) -> Result<(), Fa
     enter(&rt, rt.process())?;
     let mut output = Sheet::whole(b"");
     let mut errors = Sheet::whole(
-        b"error: port P3: cannot read paths.in: No such file or directory (os error 2)\n",
+        b"error: port P3: read paths.in: No such file or directory (os error 2)\n",
     );
     let told = run(
         &rt,

@@ -151,7 +151,7 @@ fn another_file_is_no_socket_of_ours(rt: HostRuntime) -> Result<(), Fail> {
     make(&rt, &[("peer.sock", b"kept")])?;
     let (mut output, mut errors) = (
         Sheet::whole(b""),
-        Sheet::front(b"error: port P2: cannot listen on peer.sock: "),
+        Sheet::front(b"error: port P2: listen peer.sock: "),
     );
     let parts = ["", LISTENER];
     let told = run(&rt, rt.alloc(), parts, PLAIN, &mut output, &mut errors)?;

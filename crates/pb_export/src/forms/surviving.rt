@@ -22,8 +22,8 @@ const SETTLED: &[Choice] = choices![
 /// No failure disconnects a service.
 const SURVIVES: &[Choice] = choices![("every single failure", Said::Yes),];
 
-/// Some failures disconnect a service.
-const PARTS: &[Choice] = choices![(" failures disconnect a service", Said::No),];
+/// Some failures split a service.
+const PARTS: &[Choice] = choices![(" failures split a service", Said::No),];
 
 /// The network with nothing down.
 const CALM: &[Slot] = slots![
@@ -87,7 +87,7 @@ const QUIET: &[Slot] = slots![
     (
         "failures_tried",
         Kind::Number,
-        " failures disconnect nothing, ticks at most "
+        " failures split nothing, ticks at most "
     ),
     ("most_ticks", Kind::Number, ""),
 ];

@@ -12,8 +12,8 @@ pub(super) const FAILED: &str =
     "nothing down: settled ticks 3 forest no\n  loop red\n  service red: C1 C2 | C3 | C4\n\
     link ring5 down: settled ticks 3 forest yes\n  service red: C1 | C2\n\
     links a b down: not settled ticks 200 forest no\n  C1 cut off from: C2 C3\n\
-    bridge B1 down: states given forest yes\n7 of 10 failures disconnect nothing, ticks at most 7\n\
-    3 of 10 failures disconnect a service\n";
+    bridge B1 down: states given forest yes\n7 of 10 failures split nothing, ticks at most 7\n\
+    3 of 10 failures split a service\n";
 
 /// Reports of `check`.
 pub(super) const CHECKS: &[Said] = &[

@@ -8,5 +8,5 @@ pub returns : goal.returns
 returns c =
     c.in_ok-writeln.ensures.bytes
     ∙ ap (λ z. string_bytes c.args.out.now ++ z)
-    (sym (regroup (decimal c.args.parting) (codes " of ") (decimal c.args.all) (codes " failures disconnect a service")
+    (sym (regroup (decimal c.args.parting) (codes " of ") (decimal c.args.all) (codes " failures split a service")
     (10 ∷ [])))

@@ -9,4 +9,4 @@ returns c =
     c.in_ok-writeln.ensures.bytes
     ∙ ap (λ z. string_bytes c.args.out.now ++ z)
     (sym (regroup_six (decimal c.args.quiet) (codes " of ") (decimal c.args.all)
-    (codes " failures disconnect nothing, ticks at most ") (decimal c.args.ticks) (10 ∷ [])))
+    (codes " failures split nothing, ticks at most ") (decimal c.args.ticks) (10 ∷ [])))

@@ -6,7 +6,7 @@
 pub(super) const RING: &str = "\
 nothing down: settled ticks 2 forest yes\n\
 \x20 service red: C1 C2 C3 C4 C5 C6\n\
-6 of 6 failures disconnect nothing, ticks at most 4\n\
+6 of 6 failures split nothing, ticks at most 4\n\
 survives every single failure\n";
 
 /// A ring: without two links two arcs remain.
@@ -43,8 +43,8 @@ links L4 L6 down: settled ticks 3 forest yes\n\
 \x20 service red: C1 C2 C3 C4 | C5 C6\n\
 links L5 L6 down: settled ticks 2 forest yes\n\
 \x20 service red: C1 C2 C3 C4 C5 | C6\n\
-6 of 21 failures disconnect nothing, ticks at most 4\n\
-15 of 21 failures disconnect a service\n";
+6 of 21 failures split nothing, ticks at most 4\n\
+15 of 21 failures split a service\n";
 
 /// A ring: a bridge that fails is alone, and the others stay connected.
 pub(super) const ALONE: &str = "\
@@ -62,8 +62,8 @@ bridge B5 down: settled ticks 2 forest yes\n\
 \x20 service red: C1 C2 C3 C4 C6 | C5\n\
 bridge B6 down: settled ticks 2 forest yes\n\
 \x20 service red: C1 C2 C3 C4 C5 | C6\n\
-6 of 12 failures disconnect nothing, ticks at most 4\n\
-6 of 12 failures disconnect a service\n";
+6 of 12 failures split nothing, ticks at most 4\n\
+6 of 12 failures split a service\n";
 
 /// Two ports of one bridge: they are disconnected if it fails.
 pub(super) const SHARED: &str = "\
@@ -79,7 +79,7 @@ bridge B2 down: settled ticks 2 forest yes\n\
 \x20 service red: C1 | C2 | C3 | C4\n\
 bridge B3 down: settled ticks 2 forest yes\n\
 \x20 service red: C1 C2 C3 | C4\n\
-5 of 5 failures disconnect a service\n";
+5 of 5 failures split a service\n";
 
 /// A line: each link disconnects it.
 pub(super) const LINE: &str = "\
@@ -91,7 +91,7 @@ link L2 down: settled ticks 2 forest yes\n\
 \x20 service red: C1 C2 | C3 C4\n\
 link L3 down: settled ticks 2 forest yes\n\
 \x20 service red: C1 C2 C3 | C4\n\
-3 of 3 failures disconnect a service\n";
+3 of 3 failures split a service\n";
 
 /// A line, from its second port.
 pub(super) const FROM: &str = "\
@@ -103,13 +103,13 @@ link L2 down: settled ticks 2 forest yes\n\
 \x20 C2 cut off from: C3 C4\n\
 link L3 down: settled ticks 2 forest yes\n\
 \x20 C2 cut off from: C4\n\
-3 of 3 failures disconnect a service\n";
+3 of 3 failures split a service\n";
 
 /// Two links: one is enough.
 pub(super) const PARALLEL: &str = "\
 nothing down: settled ticks 2 forest yes\n\
 \x20 service red: C1 C2\n\
-2 of 2 failures disconnect nothing, ticks at most 2\n\
+2 of 2 failures split nothing, ticks at most 2\n\
 survives every single failure\n";
 
 /// Two links: without both the bridges are disconnected.
@@ -118,8 +118,8 @@ nothing down: settled ticks 2 forest yes\n\
 \x20 service red: C1 C2\n\
 links L1 L2 down: settled ticks 2 forest yes\n\
 \x20 service red: C1 | C2\n\
-2 of 3 failures disconnect nothing, ticks at most 2\n\
-1 of 3 failures disconnect a service\n";
+2 of 3 failures split nothing, ticks at most 2\n\
+1 of 3 failures split a service\n";
 
 /// A star: each link cuts off the port at its far end.
 pub(super) const STAR: &str = "\
@@ -131,14 +131,14 @@ link L2 down: states given forest yes\n\
 \x20 service red: C1 C3 | C2\n\
 link L3 down: states given forest yes\n\
 \x20 service red: C1 C2 | C3\n\
-3 of 3 failures disconnect a service\n";
+3 of 3 failures split a service\n";
 
 /// A ring with a forwarding loop: without any one link it is a forest.
 pub(super) const LOOPING: &str = "\
 nothing down: states given forest no\n\
 \x20 loop red\n\
 \x20 service red: C1 C2\n\
-3 of 3 failures disconnect nothing, ticks at most 0\n\
+3 of 3 failures split nothing, ticks at most 0\n\
 survives every single failure\n";
 
 /// A ring with a link for one service: the other service has only a line.
@@ -148,14 +148,14 @@ nothing down: settled ticks 2 forest yes\n\
 \x20 service blue: C3 C4\n\
 link L1 down: settled ticks 2 forest yes\n\
 \x20 service blue: C3 | C4\n\
-2 of 3 failures disconnect nothing, ticks at most 2\n\
-1 of 3 failures disconnect a service\n";
+2 of 3 failures split nothing, ticks at most 2\n\
+1 of 3 failures split a service\n";
 
 /// The standard's network: each link is redundant.
 pub(super) const FIGURE: &str = "\
 nothing down: settled ticks 2 forest yes\n\
 \x20 service red: C1 C2 C3 C4 C5 C6 C7 C8\n\
-14 of 14 failures disconnect nothing, ticks at most 2\n\
+14 of 14 failures split nothing, ticks at most 2\n\
 survives every single failure\n";
 
 /// A ring whose bridges tick at most twice.
@@ -168,8 +168,8 @@ link L2 down: not settled ticks 2 forest yes\n\
 \x20 service red: C1 C2 C4 C5 C6 | C3\n\
 link L6 down: not settled ticks 2 forest yes\n\
 \x20 service red: C1 C2 C3 C4 | C5 | C6\n\
-3 of 6 failures disconnect nothing, ticks at most 2\n\
-3 of 6 failures disconnect a service\n";
+3 of 6 failures split nothing, ticks at most 2\n\
+3 of 6 failures split a service\n";
 
 /// An empty plan.
 pub(super) const EMPTY: &str = "\
