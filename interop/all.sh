@@ -2,7 +2,8 @@
 # Shows by others' programs that what we say is what the rest of the world does: installs what that needs from Debian's
 # packages, runs each part, and ends with 0 where each row of each table is alike or a listed difference.
 #
-#     interop/all.sh [PART..]     all parts, or those that are named: differences survive wireshark openvswitch vde speed linux
+#     interop/all.sh [PART..]     all parts, or those that are named: differences survive wireshark openvswitch rings vde
+#                                 speed linux
 #
 # The program is ./pbnet, or the one that the variable PBNET names. It is no part of the gate.
 set -eu
@@ -11,7 +12,7 @@ cd -- "$(dirname -- "$0")/.."
 packages=(python3 tshark wireshark-common openvswitch-switch openvswitch-common vde-switch vdeplug gcc libc6-dev
     qemu-system-x86 busybox-static iproute2 cpio)
 parts=("$@")
-[ "${#parts[@]}" -gt 0 ] || parts=(differences survive wireshark openvswitch vde speed linux)
+[ "${#parts[@]}" -gt 0 ] || parts=(differences survive wireshark openvswitch rings vde speed linux)
 status=0
 
 # The packages that are not installed.
