@@ -1,9 +1,11 @@
-use Rattle.std.proofs.Common.{refl, sym, ◌∙◌}
+use Rattle.std.proofs.Common.{refl, sym, ap₂, ◌∙◌}
 use Rattle.std.proofs.lemmas.Result.{err_from_is_err_and}
+use Rattle.pb_lan.specs.Ports.{is_used, port_at}
 use Rattle.pb_lan.specs.declared.event.Event.TheVariants.{Receive}
+use Rattle.pb_lan.specs.declared.plan.Plan.{Plan}
 use Rattle.pb_net.specs.Answers.{IsDue}
 use Rattle.pb_net.proofs.KnownSpots.{BridgeAt, bridge_at, inbox_kept, shown}
-use Rattle.pb_net.proofs.DueLemmas.{due_here, idle_receive_is}
+use Rattle.pb_net.proofs.DueLemmas.{due_here, idle_receive_is, bridge_is}
 use Rattle.pb_net.proofs.Done.{some_there, bridge_failed, receive_done, answers_fault, answers_done}
 use Rattle.pb_net.proofs.net.Net.receive.Goals as goal
 use Rattle.pb_net.proofs.net.Net.receive.Goals.{After-index_mut}
@@ -15,6 +17,10 @@ at c = bridge_at c.self.inside c.self.invariant c.self.view_is (rw c.in-Some.is 
 
 due : (c : After-index_mut) → IsDue (shown c.self.inside) (Receive c.args.bridge c.args.port)
 due c = due_here c.self.inside c.self.view_is (rw c.in-Some.is at c.in_ok-spot.ensures.due)
+
+pub receive_at-requires-clause-used : goal.receive_at-requires-clause-used
+receive_at-requires-clause-used c = let h = (goal.at.receive_at-requires-clause-used c).After-index_mut in
+    let is = bridge_is (at h) in ap₂ (λ (p : Plan) n. is_used (port_at p n c.args.port)) is.0 is.1 ∙ (due h).named
 
 pub receive_at-requires-clause-some : goal.receive_at-requires-clause-some
 receive_at-requires-clause-some c = let h = (goal.at.receive_at-requires-clause-some c).After-index_mut in
