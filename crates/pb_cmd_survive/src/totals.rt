@@ -1,110 +1,208 @@
-//! The last lines of the report: how many failures have no effect, and how many disconnect a service.
+//! The last lines of the report: what was checked, how many failures do which harm, and the verdict.
 
-ghost use Rattle.std.specs.Prelude.{◌≡◌, ◌++◌, length, count_by, string_bytes, OnOk};
-ghost use Rattle.pb_cmd_survive.specs.Reports.{quiet_line, quiet_count_line, quiet_ticks, slowest};
-ghost use Rattle.pb_cmd_survive.specs.Reports.{verdict_line, parting_count_line, is_quiet, parts};
+ghost use Rattle.std.specs.Prelude.{◌≡◌, ◌++◌, length, not, count_by, string_bytes, OnOk};
+ghost use Rattle.pb_cmd_survive.specs.Reports.{kind_text, checked_line, ticks_of, slowest, has_converged};
+ghost use Rattle.pb_cmd_survive.specs.Reports.{converge_line, count_line, harm_text, totals_text, last_line};
+ghost use Rattle.pb_cmd_survive.specs.Failures.{is_link, is_bridge, is_pair};
+ghost use Rattle.pb_cmd_survive.specs.Verdicts.{is_settled, are_forests, parts};
+ghost use Rattle.std.specs.List.{list_any};
 
+use crate::criteria::Criteria;
+use crate::failure::Failure;
+use crate::health::put_unhealthy;
 use crate::impact::Impact;
-use crate::parting::{is_quiet, parts};
+use crate::parting::parts;
+use crate::verdict::{are_forests, is_healthy, is_settled};
 use pb_converge::Rest;
 use pb_frame::Memory;
 
-/// Appends the line of the failures without effect.
-fn put_quiet_count(out: &mut String, quiet: usize, all: usize, ticks: u32) -> Result<(), Memory>
-    ensures { OnOk result (string_bytes out.new ≡ string_bytes out.old ++ quiet_count_line quiet all ticks) }
+/// Checks whether one link fails alone.
+fn is_link(failure: Failure) -> bool
+    ensures { result ≡ is_link failure }
 {
-    writeln!(
-        out,
-        "{quiet} of {all} failures disconnect nothing, ticks at most {ticks}"
-    )?;
+    match failure {
+        Failure::Link(_) => true,
+        Failure::Nothing | Failure::Pair(_, _) | Failure::Bridge(_) => false,
+    }
+}
+
+/// Checks whether a bridge fails.
+fn is_bridge(failure: Failure) -> bool
+    ensures { result ≡ is_bridge failure }
+{
+    match failure {
+        Failure::Bridge(_) => true,
+        Failure::Nothing | Failure::Pair(_, _) | Failure::Link(_) => false,
+    }
+}
+
+/// Checks whether two links fail.
+fn is_pair(failure: Failure) -> bool
+    ensures { result ≡ is_pair failure }
+{
+    match failure {
+        Failure::Pair(_, _) => true,
+        Failure::Nothing | Failure::Link(_) | Failure::Bridge(_) => false,
+    }
+}
+
+/// Appends the number of failures of a kind, if there are any.
+fn put_kind(out: &mut String, count: usize, what: &str) -> Result<(), Memory>
+    ensures { OnOk result (string_bytes out.new ≡ string_bytes out.old ++ kind_text count what.now) }
+{
+    if count != 0 {
+        write!(out, ", {count} {what}")?;
+    }
     Ok(())
 }
 
-/// Appends the line of the failures without effect, if there are any.
-fn put_quiet(out: &mut String, quiet: usize, all: usize, ticks: u32) -> Result<(), Memory>
-    ensures { OnOk result (string_bytes out.new ≡ string_bytes out.old ++ quiet_line quiet all ticks) }
+/// Appends how many failures of each kind were analysed.
+fn put_checked(out: &mut String, impacts: &[Impact]) -> Result<(), Memory>
+    ensures { OnOk result (string_bytes out.new ≡ string_bytes out.old ++ checked_line impacts.now) }
 {
-    if quiet == 0 {
-        return Ok(());
-    }
-    put_quiet_count(out, quiet, all, ticks)
-}
-
-/// Appends the line of the failures that disconnect a service.
-fn put_parting_count(out: &mut String, parting: usize, all: usize) -> Result<(), Memory>
-    ensures { OnOk result (string_bytes out.new ≡ string_bytes out.old ++ parting_count_line parting all) }
-{
-    writeln!(out, "{parting} of {all} failures disconnect a service")?;
+    let links = impacts.iter().filter(|impact| is_link(impact.failure)).count();
+    let bridges = impacts.iter().filter(|impact| is_bridge(impact.failure)).count();
+    let pairs = impacts.iter().filter(|impact| is_pair(impact.failure)).count();
+    write!(out, "checked {links} links")?;
+    put_kind(out, bridges, "bridges")?;
+    put_kind(out, pairs, "pairs")?;
+    out.push_str("\n")?;
     Ok(())
 }
 
-/// Appends how many failures disconnect a service, or that none does.
-pub(crate) fn put_verdict(out: &mut String, parting: usize, all: usize) -> Result<(), Memory>
-    ensures { OnOk result (string_bytes out.new ≡ string_bytes out.old ++ verdict_line parting all) }
+/// Returns the ticks of each bridge until they converged, or 0 if they did not.
+fn ticks_of(rest: Rest) -> u32
+    ensures { result ≡ ticks_of rest }
 {
-    if parting == 0 {
-        out.push_str("survives every single failure\n")?;
-        return Ok(());
-    }
-    put_parting_count(out, parting, all)
-}
-
-/// Returns how many of the failures disconnect a service.
-pub(crate) fn count_parting(from: Option<u8>, base: &Impact, impacts: &[Impact]) -> usize
-    ensures { result ≡ count_by (parts from base.now) impacts.now }
-{
-    impacts
-        .iter()
-        .filter(|impact| parts(from, base, impact))
-        .count()
-}
-
-/// Returns how many of the failures have no effect that the report shows.
-fn count_quiet(from: Option<u8>, base: &Impact, impacts: &[Impact]) -> usize
-    ensures { result ≡ count_by (is_quiet from base.now) impacts.now }
-{
-    impacts
-        .iter()
-        .filter(|impact| is_quiet(from, base, impact))
-        .count()
-}
-
-/// Returns the ticks of each bridge until convergence after a failure without effect, or 0 if it has an effect.
-fn quiet_ticks(from: Option<u8>, base: &Impact, impact: &Impact) -> u32
-    ensures { result ≡ quiet_ticks from base.now impact.now }
-{
-    if !is_quiet(from, base, impact) {
-        return 0;
-    }
-    match impact.rest {
-        Rest::Given => 0,
-        Rest::Settled(ticks) | Rest::Unsettled(ticks) => ticks,
+    match rest {
+        Rest::Given | Rest::Unsettled(_) => 0,
+        Rest::Settled(ticks) => ticks,
     }
 }
 
-/// Returns the most ticks of each bridge until convergence after a failure without effect.
-fn slowest(from: Option<u8>, base: &Impact, impacts: &[Impact]) -> u32
-    ensures { result ≡ slowest from base.now impacts.now }
+/// Checks whether the bridges ticked and converged.
+fn has_converged(rest: Rest) -> bool
+    ensures { result ≡ has_converged rest }
+{
+    match rest {
+        Rest::Given | Rest::Unsettled(_) => false,
+        Rest::Settled(_) => true,
+    }
+}
+
+/// Returns the most ticks of each bridge until they converged after a failure.
+fn slowest(impacts: &[Impact]) -> u32
+    ensures { result ≡ slowest impacts.now }
 {
     let mut most = 0;
     for impact in impacts {
-        most = most.max(quiet_ticks(from, base, impact));
+        most = most.max(ticks_of(impact.rest));
     }
     most
 }
 
-/// Appends the number of failures without effect, if there are any, and the most ticks to convergence after them.
-pub(crate) fn put_all_quiet(
+/// Appends the most ticks until bridges converged, if they did after some failure.
+fn put_converge(out: &mut String, impacts: &[Impact]) -> Result<(), Memory>
+    ensures { OnOk result (string_bytes out.new ≡ string_bytes out.old ++ converge_line impacts.now) }
+{
+    if impacts.iter().any(|impact| has_converged(impact.rest)) {
+        writeln!(out, "converges within {} ticks", slowest(impacts))?;
+    }
+    Ok(())
+}
+
+/// Appends how many of all failures do what is said, if any does.
+fn put_count(out: &mut String, count: usize, all: usize, what: &str) -> Result<(), Memory>
+    ensures { OnOk result (string_bytes out.new ≡ string_bytes out.old ++ count_line count all what.now) }
+{
+    if count != 0 {
+        writeln!(out, "{count} of {all} failures {what}")?;
+    }
+    Ok(())
+}
+
+/// Returns how many of the failures disconnect a service.
+fn count_parting(criteria: Criteria, base: &Impact, impacts: &[Impact]) -> usize
+    ensures { result ≡ count_by (parts criteria base.now) impacts.now }
+{
+    impacts
+        .iter()
+        .filter(|impact| parts(criteria, base, impact))
+        .count()
+}
+
+/// Returns how many of the failures disconnect nothing.
+fn count_sparing(criteria: Criteria, base: &Impact, impacts: &[Impact]) -> usize
+    ensures { result ≡ count_by (λ o. not (parts criteria base.now o)) impacts.now }
+{
+    impacts
+        .iter()
+        .filter(|impact| !parts(criteria, base, impact))
+        .count()
+}
+
+/// Returns how many of the failures leave a service with a forwarding loop.
+fn count_looping(impacts: &[Impact]) -> usize
+    ensures { result ≡ count_by (λ o. not (are_forests o.views)) impacts.now }
+{
+    impacts
+        .iter()
+        .filter(|impact| !are_forests(impact.views.as_slice()))
+        .count()
+}
+
+/// Returns after how many of the failures the bridges do not converge.
+fn count_unsettled(impacts: &[Impact]) -> usize
+    ensures { result ≡ count_by (λ o. not (is_settled o.rest)) impacts.now }
+{
+    impacts
+        .iter()
+        .filter(|impact| !is_settled(impact.rest))
+        .count()
+}
+
+/// Appends how many failures do harm, by its kind.
+fn put_harm(
     out: &mut String,
-    from: Option<u8>,
+    criteria: Criteria,
     base: &Impact,
     impacts: &[Impact],
 ) -> Result<(), Memory>
-    ensures { OnOk result (string_bytes out.new ≡ string_bytes out.old
-        ++ quiet_line (count_by (is_quiet from base.now) impacts.now) (length impacts.now)
-        (slowest from base.now impacts.now)) }
+    ensures { OnOk result (string_bytes out.new ≡ string_bytes out.old ++ harm_text criteria base.now impacts.now) }
 {
-    let quiet = count_quiet(from, base, impacts);
-    let ticks = slowest(from, base, impacts);
-    put_quiet(out, quiet, impacts.len(), ticks)
+    let all = impacts.len();
+    let parting = count_parting(criteria, base, impacts);
+    put_count(out, parting, all, "disconnect a service")?;
+    put_count(out, count_looping(impacts), all, "form a forwarding loop")?;
+    put_count(out, count_unsettled(impacts), all, "do not converge")
+}
+
+/// Appends what was checked, and how many failures do what.
+pub(crate) fn put_totals(
+    out: &mut String,
+    criteria: Criteria,
+    base: &Impact,
+    impacts: &[Impact],
+) -> Result<(), Memory>
+    ensures { OnOk result (string_bytes out.new ≡ string_bytes out.old ++ totals_text criteria base.now impacts.now) }
+{
+    put_checked(out, impacts)?;
+    let sparing = count_sparing(criteria, base, impacts);
+    put_count(out, sparing, impacts.len(), "disconnect nothing")?;
+    put_converge(out, impacts)?;
+    put_harm(out, criteria, base, impacts)
+}
+
+/// Appends the last line: that the network survives, or that it is not healthy with nothing down.
+pub(crate) fn put_last(out: &mut String, base: &Impact, survived: bool) -> Result<(), Memory>
+    ensures { OnOk result (string_bytes out.new ≡ string_bytes out.old ++ last_line base.now survived) }
+{
+    if survived {
+        out.push_str("survives every single failure\n")?;
+        return Ok(());
+    }
+    if is_healthy(base) {
+        return Ok(());
+    }
+    put_unhealthy(out, base)
 }
