@@ -60,9 +60,18 @@ fn put_kind(out: &mut String, count: usize, what: &str) -> Result<(), Memory>
 fn put_checked(out: &mut String, impacts: &[Impact]) -> Result<(), Memory>
     ensures { OnOk result (string_bytes out.new ≡ string_bytes out.old ++ checked_line impacts.now) }
 {
-    let links = impacts.iter().filter(|impact| is_link(impact.failure)).count();
-    let bridges = impacts.iter().filter(|impact| is_bridge(impact.failure)).count();
-    let pairs = impacts.iter().filter(|impact| is_pair(impact.failure)).count();
+    let links = impacts
+        .iter()
+        .filter(|impact| is_link(impact.failure))
+        .count();
+    let bridges = impacts
+        .iter()
+        .filter(|impact| is_bridge(impact.failure))
+        .count();
+    let pairs = impacts
+        .iter()
+        .filter(|impact| is_pair(impact.failure))
+        .count();
     write!(out, "checked {links} links")?;
     put_kind(out, bridges, "bridges")?;
     put_kind(out, pairs, "pairs")?;

@@ -66,5 +66,8 @@ pub(crate) fn is_quiet(criteria: Criteria, base: &Impact, impact: &Impact) -> bo
 pub(crate) fn survives(criteria: Criteria, base: &Impact, impacts: &[Impact]) -> bool
     ensures { result ≡ survives criteria base.now impacts.now }
 {
-    is_healthy(base) && impacts.iter().all(|impact| is_quiet(criteria, base, impact))
+    is_healthy(base)
+        && impacts
+            .iter()
+            .all(|impact| is_quiet(criteria, base, impact))
 }

@@ -38,10 +38,7 @@ const NEVER: &[Choice] = choices![("", Said::No),];
 const IS_HEALTHY: &[Choice] = choices![("with nothing down", Said::Yes),];
 
 /// The network is not healthy, and whether its bridges converge.
-const IS_UNHEALTHY: &[Choice] = choices![
-    (", bridges do not converge", Said::No),
-    ("", Said::No),
-];
+const IS_UNHEALTHY: &[Choice] = choices![(", bridges do not converge", Said::No), ("", Said::No),];
 
 /// Why the network is not healthy.
 const FAULTS: &[Choice] = choices![("do not converge", Said::Word("not converged")),];
