@@ -219,7 +219,8 @@ fn put_view(
     old: &View,
     new: &View,
 ) -> Result<(), Memory>
-    ensures { OnOk result (string_bytes out.new ≡ string_bytes out.old ++ view_text plan.now criteria (old.now, new.now)) }
+    ensures { OnOk result (string_bytes out.new ≡ string_bytes out.old
+        ++ view_text plan.now criteria (old.now, new.now)) }
 {
     put_loop(out, plan, new)?;
     if parts_view(criteria, old, new) {

@@ -95,7 +95,8 @@ fn sites_of(
 ) -> Result<Vec<Site>, Memory>
     requires { IsSound plan.now }
     ensures { IfOk result (λ sites.
-        sites.items ≡ map (site_of (color_of plan.now marks.now failure) (is_port_out plan.now failure) ports.now) ports.now) }
+        sites.items ≡ map (site_of (color_of plan.now marks.now failure) (is_port_out plan.now failure) ports.now)
+        ports.now) }
 {
     let mut sites = Vec::with_capacity(alloc, ports.len())?;
     for port in ports {

@@ -4,5 +4,6 @@ use Rattle.pb_cmd_survive.proofs.sites.sites_of.Given as goal
 
 abbrev pub invariant-loop-port : goal.invariant-loop-port
 invariant-loop-port l =
-    l.sites.items ++ map (site_of (color_of l.plan l.marks l.failure) (is_port_out l.plan l.failure) l.ports) (drop l.port-index l.ports) ≡ map
-    (site_of (color_of l.plan l.marks l.failure) (is_port_out l.plan l.failure) l.ports) l.ports
+    l.sites.items ++ map (site_of (color_of l.plan l.marks l.failure) (is_port_out l.plan l.failure) l.ports)
+    (drop l.port-index l.ports)
+    ≡ map (site_of (color_of l.plan l.marks l.failure) (is_port_out l.plan l.failure) l.ports) l.ports
