@@ -96,11 +96,17 @@ abbrev pub about_line : Plan → View → List ℕ → List ℕ
 about_line plan v what = codes "service " ++ service_name plan v.service ++ what ++ 10 ∷ []
 
 -- a line for each reason why a service is not healthy
+abbrev pub split_line : Plan → View → List ℕ
+split_line plan v = if is_split v.sites then about_line plan v (codes " is disconnected") else []
+
+abbrev pub loop_reason_line : Plan → View → List ℕ
+loop_reason_line plan v = if v.is_forest then [] else about_line plan v (codes " has a forwarding loop")
+
+abbrev pub few_line : Plan → View → List ℕ
+few_line plan v = if nat_lt 1 (length v.sites) then [] else about_line plan v (codes " has fewer than two ports")
+
 abbrev pub reasons_text : Plan → View → List ℕ
-reasons_text plan v =
-    (if is_split v.sites then about_line plan v (codes " is disconnected") else [])
-    ++ (if v.is_forest then [] else about_line plan v (codes " has a forwarding loop"))
-    ++ (if nat_lt 1 (length v.sites) then [] else about_line plan v (codes " has fewer than two ports"))
+reasons_text plan v = split_line plan v ++ loop_reason_line plan v ++ few_line plan v
 
 -- how many services are not healthy
 abbrev pub unhealthy_text : List View → List ℕ
@@ -108,11 +114,15 @@ unhealthy_text views =
     if length views == 0 then codes "no service"
     else decimal (count_by (λ v. not (is_healthy_service v)) views) ++ codes " services"
 
+-- a text, if the bridges do not converge
+abbrev pub unsettled_text : Impact → List ℕ → List ℕ
+unsettled_text base what = if is_settled base.rest then [] else what
+
 -- the summary of a network that is not healthy
 abbrev pub unhealthy_line : Impact → List ℕ
 unhealthy_line base =
     codes "not healthy with nothing down: " ++ unhealthy_text base.views
-    ++ (if is_settled base.rest then [] else codes ", bridges do not converge") ++ 10 ∷ []
+    ++ unsettled_text base (codes ", bridges do not converge") ++ 10 ∷ []
 
 -- that the network is healthy, or its summary
 abbrev pub health_line : Impact → List ℕ
@@ -121,8 +131,7 @@ health_line base = if is_healthy base then codes "healthy with nothing down" ++ 
 -- the lines of its health: each reason why it is not healthy, and the summary
 abbrev pub health_text : Plan → Impact → List ℕ
 health_text plan base =
-    (if is_settled base.rest then [] else codes "bridges do not converge" ++ 10 ∷ [])
-    ++ flat_map (reasons_text plan) base.views ++ health_line base
+    unsettled_text base (codes "bridges do not converge" ++ 10 ∷ []) ++ flat_map (reasons_text plan) base.views ++ health_line base
 
 -- the lines of a failure, if it does harm
 abbrev pub impact_text : Plan → Criteria → Impact → Impact → List ℕ
@@ -157,31 +166,42 @@ has_converged (Settled ticks) = true
 has_converged (Unsettled ticks) = false
 
 -- the most ticks until bridges converged, if they did after some failure
+abbrev pub ticks_line : ℕ → List ℕ
+ticks_line ticks = codes "converges within " ++ decimal ticks ++ codes " ticks" ++ 10 ∷ []
+
 abbrev pub converge_line : List Impact → List ℕ
-converge_line impacts =
-    if list_any (λ o. has_converged o.rest) impacts
-    then codes "converges within " ++ decimal (slowest impacts) ++ codes " ticks" ++ 10 ∷ []
-    else []
+converge_line impacts = if list_any (λ o. has_converged o.rest) impacts then ticks_line (slowest impacts) else []
 
--- how many of all failures do what is said, if any does
+-- how many of all failures do what is said
+abbrev pub some_line : ℕ → ℕ → List ℕ → List ℕ
+some_line count all what = decimal count ++ codes " of " ++ decimal all ++ codes " failures " ++ what ++ 10 ∷ []
+
+-- that line, if any does
 abbrev pub count_line : ℕ → ℕ → List ℕ → List ℕ
-count_line count all what =
-    if count == 0 then [] else decimal count ++ codes " of " ++ decimal all ++ codes " failures " ++ what ++ 10 ∷ []
+count_line count all what = if count == 0 then [] else some_line count all what
 
--- how many failures do harm, by its kind
-abbrev pub harm_text : Criteria → Impact → List Impact → List ℕ
-harm_text criteria base impacts =
+-- how many failures disconnect nothing, and how many do harm, by its kind
+abbrev pub sparing_line : Criteria → Impact → List Impact → List ℕ
+sparing_line criteria base impacts =
+    count_line (count_by (λ o. not (parts criteria base o)) impacts) (length impacts) (codes "disconnect nothing")
+
+abbrev pub parting_count_line : Criteria → Impact → List Impact → List ℕ
+parting_count_line criteria base impacts =
     count_line (count_by (parts criteria base) impacts) (length impacts) (codes "disconnect a service")
-    ++ count_line (count_by (λ o. not (are_forests o.views)) impacts) (length impacts) (codes "form a forwarding loop")
-    ++ count_line (count_by (λ o. not (is_settled o.rest)) impacts) (length impacts) (codes "do not converge")
+
+abbrev pub looping_line : List Impact → List ℕ
+looping_line impacts =
+    count_line (count_by (λ o. not (are_forests o.views)) impacts) (length impacts) (codes "form a forwarding loop")
+
+abbrev pub unsettled_line : List Impact → List ℕ
+unsettled_line impacts =
+    count_line (count_by (λ o. not (is_settled o.rest)) impacts) (length impacts) (codes "do not converge")
 
 -- what was checked, and how many failures do what
 abbrev pub totals_text : Criteria → Impact → List Impact → List ℕ
 totals_text criteria base impacts =
-    checked_line impacts
-    ++ count_line (count_by (λ o. not (parts criteria base o)) impacts) (length impacts) (codes "disconnect nothing")
-    ++ converge_line impacts
-    ++ harm_text criteria base impacts
+    checked_line impacts ++ sparing_line criteria base impacts ++ converge_line impacts
+    ++ parting_count_line criteria base impacts ++ looping_line impacts ++ unsettled_line impacts
 
 -- the last line, if the counts are not the last ones
 abbrev pub last_line : Impact → Bool → List ℕ

@@ -18,9 +18,13 @@ is_settled (Unsettled ticks) = false
 abbrev pub are_forests : List View → Bool
 are_forests views = list_all (λ v. v.is_forest) views
 
--- two ports are in different groups
+-- one of the ports is in another group than this one
+abbrev pub is_apart : List Site → Site → Bool
+is_apart sites s = list_any (λ t. not (s.group == t.group)) sites
+
+-- two of the ports are in different groups
 abbrev pub is_split : List Site → Bool
-is_split sites = list_any (λ s. list_any (λ t. not (s.group == t.group)) sites) sites
+is_split sites = list_any (is_apart sites) sites
 
 -- a service is healthy: it has no forwarding loop and two ports or more, all in one group
 abbrev pub is_healthy_service : View → Bool

@@ -1,7 +1,8 @@
 //! The lines about the network's health with nothing down.
 
-ghost use Rattle.std.specs.Prelude.{◌≡◌, ◌++◌, ◌==◌, flat_map, length, nat_lt, not, count_by, string_bytes, OnOk};
-ghost use Rattle.pb_cmd_survive.specs.Reports.{about_line, reasons_text, unhealthy_text, unhealthy_line};
+ghost use Rattle.std.specs.Prelude.{◌≡◌, ◌++◌, flat_map, not, count_by, string_bytes, OnOk};
+ghost use Rattle.pb_cmd_survive.specs.Reports.{about_line, split_line, loop_reason_line, few_line, reasons_text};
+ghost use Rattle.pb_cmd_survive.specs.Reports.{unsettled_text, unhealthy_text, unhealthy_line};
 ghost use Rattle.pb_cmd_survive.specs.Reports.{health_line, health_text};
 ghost use Rattle.pb_cmd_survive.specs.Verdicts.{is_healthy_service};
 
@@ -16,24 +17,50 @@ use pb_names::service_name;
 fn put_about(out: &mut String, plan: &Plan, view: &View, what: &str) -> Result<(), Memory>
     ensures { OnOk result (string_bytes out.new ≡ string_bytes out.old ++ about_line plan.now view.now what.now) }
 {
-    writeln!(out, "service {}{what}", service_name(plan, view.service))?;
+    out.push_str("service ")?;
+    out.push_str(service_name(plan, view.service))?;
+    out.push_str(what)?;
+    out.push_str("\n")?;
     Ok(())
+}
+
+/// Appends that a service is disconnected, if it is.
+fn put_split(out: &mut String, plan: &Plan, view: &View) -> Result<(), Memory>
+    ensures { OnOk result (string_bytes out.new ≡ string_bytes out.old ++ split_line plan.now view.now) }
+{
+    if is_split(view.sites.as_slice()) {
+        put_about(out, plan, view, " is disconnected")?;
+    }
+    Ok(())
+}
+
+/// Appends that a service has a forwarding loop, if it has.
+fn put_loop_reason(out: &mut String, plan: &Plan, view: &View) -> Result<(), Memory>
+    ensures { OnOk result (string_bytes out.new ≡ string_bytes out.old ++ loop_reason_line plan.now view.now) }
+{
+    if !view.is_forest {
+        put_about(out, plan, view, " has a forwarding loop")?;
+    }
+    Ok(())
+}
+
+/// Appends that a service has fewer than two ports, if it has.
+fn put_few(out: &mut String, plan: &Plan, view: &View) -> Result<(), Memory>
+    ensures { OnOk result (string_bytes out.new ≡ string_bytes out.old ++ few_line plan.now view.now) }
+{
+    if 1 < view.sites.as_slice().len() {
+        return Ok(());
+    }
+    put_about(out, plan, view, " has fewer than two ports")
 }
 
 /// Appends a line for each reason why a service is not healthy.
 fn put_reasons(out: &mut String, plan: &Plan, view: &View) -> Result<(), Memory>
     ensures { OnOk result (string_bytes out.new ≡ string_bytes out.old ++ reasons_text plan.now view.now) }
 {
-    if is_split(view.sites.as_slice()) {
-        put_about(out, plan, view, " is disconnected")?;
-    }
-    if !view.is_forest {
-        put_about(out, plan, view, " has a forwarding loop")?;
-    }
-    if view.sites.as_slice().len() < 2 {
-        put_about(out, plan, view, " has fewer than two ports")?;
-    }
-    Ok(())
+    put_split(out, plan, view)?;
+    put_loop_reason(out, plan, view)?;
+    put_few(out, plan, view)
 }
 
 /// Returns how many services are not healthy.
@@ -58,15 +85,23 @@ fn put_services(out: &mut String, views: &[View]) -> Result<(), Memory>
     Ok(())
 }
 
+/// Appends a text, if the bridges do not converge.
+fn put_unsettled(out: &mut String, base: &Impact, what: &str) -> Result<(), Memory>
+    ensures { OnOk result (string_bytes out.new ≡ string_bytes out.old ++ unsettled_text base.now what.now) }
+{
+    if !is_settled(base.rest) {
+        out.push_str(what)?;
+    }
+    Ok(())
+}
+
 /// Appends the summary of a network that is not healthy.
 pub(crate) fn put_unhealthy(out: &mut String, base: &Impact) -> Result<(), Memory>
     ensures { OnOk result (string_bytes out.new ≡ string_bytes out.old ++ unhealthy_line base.now) }
 {
     out.push_str("not healthy with nothing down: ")?;
     put_services(out, base.views.as_slice())?;
-    if !is_settled(base.rest) {
-        out.push_str(", bridges do not converge")?;
-    }
+    put_unsettled(out, base, ", bridges do not converge")?;
     out.push_str("\n")?;
     Ok(())
 }
@@ -97,9 +132,7 @@ fn put_all_reasons(out: &mut String, plan: &Plan, views: &[View]) -> Result<(), 
 pub(crate) fn put_health(out: &mut String, plan: &Plan, base: &Impact) -> Result<(), Memory>
     ensures { OnOk result (string_bytes out.new ≡ string_bytes out.old ++ health_text plan.now base.now) }
 {
-    if !is_settled(base.rest) {
-        out.push_str("bridges do not converge\n")?;
-    }
+    put_unsettled(out, base, "bridges do not converge\n")?;
     put_all_reasons(out, plan, base.views.as_slice())?;
     put_health_line(out, base)
 }

@@ -1,8 +1,10 @@
 //! The last lines of the report: what was checked, how many failures do which harm, and the verdict.
 
-ghost use Rattle.std.specs.Prelude.{◌≡◌, ◌++◌, length, not, count_by, string_bytes, OnOk};
+ghost use Rattle.std.specs.Prelude.{◌≡◌, ◌++◌, not, count_by, string_bytes, OnOk};
 ghost use Rattle.pb_cmd_survive.specs.Reports.{kind_text, checked_line, ticks_of, slowest, has_converged};
-ghost use Rattle.pb_cmd_survive.specs.Reports.{converge_line, count_line, harm_text, totals_text, last_line};
+ghost use Rattle.pb_cmd_survive.specs.Reports.{ticks_line, converge_line, some_line, count_line, sparing_line};
+ghost use Rattle.pb_cmd_survive.specs.Reports.{parting_count_line, looping_line, unsettled_line};
+ghost use Rattle.pb_cmd_survive.specs.Reports.{totals_text, last_line};
 ghost use Rattle.pb_cmd_survive.specs.Failures.{is_link, is_bridge, is_pair};
 ghost use Rattle.pb_cmd_survive.specs.Verdicts.{is_settled, are_forests, parts};
 ghost use Rattle.std.specs.List.{list_any};
@@ -46,13 +48,45 @@ fn is_pair(failure: Failure) -> bool
     }
 }
 
+/// Returns how many of the failures are those of one link.
+fn count_links(impacts: &[Impact]) -> usize
+    ensures { result ≡ count_by (λ o. is_link o.failure) impacts.now }
+{
+    impacts
+        .iter()
+        .filter(|impact| is_link(impact.failure))
+        .count()
+}
+
+/// Returns how many of the failures are those of a bridge.
+fn count_bridges(impacts: &[Impact]) -> usize
+    ensures { result ≡ count_by (λ o. is_bridge o.failure) impacts.now }
+{
+    impacts
+        .iter()
+        .filter(|impact| is_bridge(impact.failure))
+        .count()
+}
+
+/// Returns how many of the failures are those of two links.
+fn count_pairs(impacts: &[Impact]) -> usize
+    ensures { result ≡ count_by (λ o. is_pair o.failure) impacts.now }
+{
+    impacts
+        .iter()
+        .filter(|impact| is_pair(impact.failure))
+        .count()
+}
+
 /// Appends the number of failures of a kind, if there are any.
 fn put_kind(out: &mut String, count: usize, what: &str) -> Result<(), Memory>
     ensures { OnOk result (string_bytes out.new ≡ string_bytes out.old ++ kind_text count what.now) }
 {
-    if count != 0 {
-        write!(out, ", {count} {what}")?;
+    if count == 0 {
+        return Ok(());
     }
+    write!(out, ", {count} ")?;
+    out.push_str(what)?;
     Ok(())
 }
 
@@ -60,21 +94,9 @@ fn put_kind(out: &mut String, count: usize, what: &str) -> Result<(), Memory>
 fn put_checked(out: &mut String, impacts: &[Impact]) -> Result<(), Memory>
     ensures { OnOk result (string_bytes out.new ≡ string_bytes out.old ++ checked_line impacts.now) }
 {
-    let links = impacts
-        .iter()
-        .filter(|impact| is_link(impact.failure))
-        .count();
-    let bridges = impacts
-        .iter()
-        .filter(|impact| is_bridge(impact.failure))
-        .count();
-    let pairs = impacts
-        .iter()
-        .filter(|impact| is_pair(impact.failure))
-        .count();
-    write!(out, "checked {links} links")?;
-    put_kind(out, bridges, "bridges")?;
-    put_kind(out, pairs, "pairs")?;
+    write!(out, "checked {} links", count_links(impacts))?;
+    put_kind(out, count_bridges(impacts), "bridges")?;
+    put_kind(out, count_pairs(impacts), "pairs")?;
     out.push_str("\n")?;
     Ok(())
 }
@@ -110,13 +132,37 @@ fn slowest(impacts: &[Impact]) -> u32
     most
 }
 
+/// Checks whether the bridges ticked and converged after some failure.
+fn any_converged(impacts: &[Impact]) -> bool
+    ensures { result ≡ list_any (λ o. has_converged o.rest) impacts.now }
+{
+    impacts.iter().any(|impact| has_converged(impact.rest))
+}
+
+/// Appends the most ticks until bridges converged.
+fn put_ticks(out: &mut String, ticks: u32) -> Result<(), Memory>
+    ensures { OnOk result (string_bytes out.new ≡ string_bytes out.old ++ ticks_line ticks) }
+{
+    write!(out, "converges within {ticks}")?;
+    out.push_str(" ticks\n")?;
+    Ok(())
+}
+
 /// Appends the most ticks until bridges converged, if they did after some failure.
 fn put_converge(out: &mut String, impacts: &[Impact]) -> Result<(), Memory>
     ensures { OnOk result (string_bytes out.new ≡ string_bytes out.old ++ converge_line impacts.now) }
 {
-    if impacts.iter().any(|impact| has_converged(impact.rest)) {
-        writeln!(out, "converges within {} ticks", slowest(impacts))?;
+    if any_converged(impacts) {
+        put_ticks(out, slowest(impacts))?;
     }
+    Ok(())
+}
+
+/// Appends how many of all failures do what is said.
+fn put_some(out: &mut String, count: usize, all: usize, what: &str) -> Result<(), Memory>
+    ensures { OnOk result (string_bytes out.new ≡ string_bytes out.old ++ some_line count all what.now) }
+{
+    writeln!(out, "{count} of {all} failures {what}")?;
     Ok(())
 }
 
@@ -124,10 +170,10 @@ fn put_converge(out: &mut String, impacts: &[Impact]) -> Result<(), Memory>
 fn put_count(out: &mut String, count: usize, all: usize, what: &str) -> Result<(), Memory>
     ensures { OnOk result (string_bytes out.new ≡ string_bytes out.old ++ count_line count all what.now) }
 {
-    if count != 0 {
-        writeln!(out, "{count} of {all} failures {what}")?;
+    if count == 0 {
+        return Ok(());
     }
-    Ok(())
+    put_some(out, count, all, what)
 }
 
 /// Returns how many of the failures disconnect a service.
@@ -170,20 +216,47 @@ fn count_unsettled(impacts: &[Impact]) -> usize
         .count()
 }
 
-/// Appends how many failures do harm, by its kind.
-fn put_harm(
+/// Appends how many failures disconnect nothing.
+fn put_sparing(
     out: &mut String,
     criteria: Criteria,
     base: &Impact,
     impacts: &[Impact],
 ) -> Result<(), Memory>
-    ensures { OnOk result (string_bytes out.new ≡ string_bytes out.old ++ harm_text criteria base.now impacts.now) }
+    ensures { OnOk result (string_bytes out.new ≡ string_bytes out.old ++ sparing_line criteria base.now impacts.now) }
 {
-    let all = impacts.len();
-    let parting = count_parting(criteria, base, impacts);
-    put_count(out, parting, all, "disconnect a service")?;
-    put_count(out, count_looping(impacts), all, "form a forwarding loop")?;
-    put_count(out, count_unsettled(impacts), all, "do not converge")
+    let count = count_sparing(criteria, base, impacts);
+    put_count(out, count, impacts.len(), "disconnect nothing")
+}
+
+/// Appends how many failures disconnect a service.
+fn put_parting_count(
+    out: &mut String,
+    criteria: Criteria,
+    base: &Impact,
+    impacts: &[Impact],
+) -> Result<(), Memory>
+    ensures { OnOk result (string_bytes out.new ≡ string_bytes out.old
+        ++ parting_count_line criteria base.now impacts.now) }
+{
+    let count = count_parting(criteria, base, impacts);
+    put_count(out, count, impacts.len(), "disconnect a service")
+}
+
+/// Appends how many failures leave a service with a forwarding loop.
+fn put_looping(out: &mut String, impacts: &[Impact]) -> Result<(), Memory>
+    ensures { OnOk result (string_bytes out.new ≡ string_bytes out.old ++ looping_line impacts.now) }
+{
+    let count = count_looping(impacts);
+    put_count(out, count, impacts.len(), "form a forwarding loop")
+}
+
+/// Appends after how many failures the bridges do not converge.
+fn put_unsettled_count(out: &mut String, impacts: &[Impact]) -> Result<(), Memory>
+    ensures { OnOk result (string_bytes out.new ≡ string_bytes out.old ++ unsettled_line impacts.now) }
+{
+    let count = count_unsettled(impacts);
+    put_count(out, count, impacts.len(), "do not converge")
 }
 
 /// Appends what was checked, and how many failures do what.
@@ -196,10 +269,11 @@ pub(crate) fn put_totals(
     ensures { OnOk result (string_bytes out.new ≡ string_bytes out.old ++ totals_text criteria base.now impacts.now) }
 {
     put_checked(out, impacts)?;
-    let sparing = count_sparing(criteria, base, impacts);
-    put_count(out, sparing, impacts.len(), "disconnect nothing")?;
+    put_sparing(out, criteria, base, impacts)?;
     put_converge(out, impacts)?;
-    put_harm(out, criteria, base, impacts)
+    put_parting_count(out, criteria, base, impacts)?;
+    put_looping(out, impacts)?;
+    put_unsettled_count(out, impacts)
 }
 
 /// Appends the last line: that the network survives, or that it is not healthy with nothing down.
