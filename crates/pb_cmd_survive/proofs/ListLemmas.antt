@@ -17,6 +17,14 @@ zip_one_more R (x ∷ xs) (suc i) d (z ∷ zs) y h a r =
     subst (λ n. AllZip R (take n (x ∷ xs)) ((z ∷ zs) ++ y ∷ [])) next
     (a.0, zip_one_more R xs i d zs y (omega (arith, h)) a.1 r)
 
+-- a text of four parts, bracketed from the left or from the right
+pub regroup_four : (a b c d : List ℕ) → ((a ++ b) ++ c) ++ d ≡ a ++ (b ++ (c ++ d))
+regroup_four a b c d = simp append_assoc
+
+-- four texts after another, as they are written and as they are defined
+pub rejoin_four : (old a b c d : List ℕ) → (((old ++ a) ++ b) ++ c) ++ d ≡ old ++ (((a ++ b) ++ c) ++ d)
+rejoin_four old a b c d = simp append_assoc
+
 -- a text of six parts, bracketed from the left or from the right
 pub regroup_six : (a b c d e f : List ℕ) → ((((a ++ b) ++ c) ++ d) ++ e) ++ f ≡ a ++ (b ++ (c ++ (d ++ (e ++ f))))
 regroup_six a b c d e f = simp append_assoc

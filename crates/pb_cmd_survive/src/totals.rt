@@ -143,8 +143,7 @@ fn any_converged(impacts: &[Impact]) -> bool
 fn put_ticks(out: &mut String, ticks: u32) -> Result<(), Memory>
     ensures { OnOk result (string_bytes out.new ≡ string_bytes out.old ++ ticks_line ticks) }
 {
-    write!(out, "converges within {ticks}")?;
-    out.push_str(" ticks\n")?;
+    writeln!(out, "converges within {ticks} ticks")?;
     Ok(())
 }
 
