@@ -80,6 +80,11 @@ pub rejoin_five : (old a b c d e : List ℕ)
     → ((((old ++ a) ++ b) ++ c) ++ d) ++ e ≡ old ++ ((((a ++ b) ++ c) ++ d) ++ e)
 rejoin_five old a b c d e = simp append_assoc
 
+-- the same of six
+pub rejoin_six : (old a b c d e f : List ℕ)
+    → (((((old ++ a) ++ b) ++ c) ++ d) ++ e) ++ f ≡ old ++ (((((a ++ b) ++ c) ++ d) ++ e) ++ f)
+rejoin_six old a b c d e f = simp append_assoc
+
 -- results that are all Ok have the relation with their arguments
 zip_oks : {A B : Type 0} (E : Type 0) (R : A → B → Type 0) (xs : List A) (ys : List B)
     → AllZip (λ x (r : Result B E). IfOk r (R x)) xs (map Ok ys)

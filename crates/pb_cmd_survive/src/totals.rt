@@ -272,7 +272,8 @@ pub(crate) fn put_totals(
     put_converge(out, impacts)?;
     put_parting_count(out, criteria, base, impacts)?;
     put_looping(out, impacts)?;
-    put_unsettled_count(out, impacts)
+    put_unsettled_count(out, impacts)?;
+    Ok(())
 }
 
 /// Appends the last line: that the network survives, or that it is not healthy with nothing down.
