@@ -39,7 +39,8 @@ def groups(text):
 READ = {
     **dict.fromkeys(
         "bridges links services ports rule entered left filtered ab_taken ab_lost ba_taken ba_lost ticks number others events "
-        "refused lost vid priority cost root_port depth part_nothing failures_tried most_ticks part_a_service".split(),
+        "refused lost vid priority cost root_port depth part_nothing failures_tried most_ticks part_a_service form_a_loop "
+        "do_not_converge unhealthy_services checked_links checked_bridges checked_pairs".split(),
         number,
     ),
     "forest": yes,
@@ -88,8 +89,19 @@ LINES = {
         ("loops", rf"  loop (?P<service>{NAME})", {}),
         ("services", rf"  service (?P<name>{NAME}):(?P<groups>.*)", {}),
         ("cut_off", rf"  (?P<port>{NAME}) cut off from:(?P<from_ports>.*)", {}),
-        ("", r"(?P<part_nothing>\d+) of (?P<failures_tried>\d+) failures split nothing, ticks at most (?P<most_ticks>\d+)", {}),
-        ("", r"(?P<part_a_service>\d+) of (?P<failures_tried>\d+) failures split a service", {"survives": False}),
+        ("unhealthy", rf"service (?P<service>{NAME}) is disconnected", {"fault": "disconnected"}),
+        ("unhealthy", rf"service (?P<service>{NAME}) has a forwarding loop", {"fault": "loop"}),
+        ("unhealthy", rf"service (?P<service>{NAME}) has fewer than two ports", {"fault": "too few ports"}),
+        ("unhealthy", r"bridges do not converge", {"fault": "not converged"}),
+        ("", r"healthy with nothing down", {"healthy": True}),
+        ("", r"not healthy with nothing down: (?:no service|(?P<unhealthy_services>\d+) services)(?:, bridges do not converge)?",
+            {"healthy": False, "survives": False}),
+        ("", r"checked (?P<checked_links>\d+) links(?:, (?P<checked_bridges>\d+) bridges)?(?:, (?P<checked_pairs>\d+) pairs)?", {}),
+        ("", r"(?P<part_nothing>\d+) of (?P<failures_tried>\d+) failures disconnect nothing", {}),
+        ("", r"converges within (?P<most_ticks>\d+) ticks", {}),
+        ("", r"(?P<part_a_service>\d+) of (?P<failures_tried>\d+) failures disconnect a service", {"survives": False}),
+        ("", r"(?P<form_a_loop>\d+) of (?P<failures_tried>\d+) failures form a forwarding loop", {"survives": False}),
+        ("", r"(?P<do_not_converge>\d+) of (?P<failures_tried>\d+) failures do not converge", {"survives": False}),
         ("", r"survives every single failure", {"survives": True}),
         ("no_such", rf"no such service (?P<service>.*)", {}), ("no_such", rf"no such port (?P<port>.*)", {}), *ENDS,
     ],
@@ -118,7 +130,7 @@ LISTS = {
 INNER = {
     "trace": {"frames": ["hops"]},
     "tree": {"bridges": ["ports"]},
-    "survive": {"nothing_down": ["loops", "services"], "failures": ["loops", "services", "cut_off"]},
+    "survive": {"nothing_down": ["loops", "services", "unhealthy"], "failures": ["loops", "services", "cut_off"]},
 }
 SOURCES = {"source a group": "group", "table full": "table full"}
 

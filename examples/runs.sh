@@ -77,7 +77,7 @@ prints broken/ring-check.expected check examples/broken/ring.toml
 prints broken/open-trace.expected trace examples/broken/open.toml C1 "$broadcast"
 prints broken/open-tree.expected tree examples/broken/open.toml
 prints broken/trunk-trace.expected trace examples/broken/trunk.toml C3 "$broadcast"
-prints broken/trunk-survive.expected survive examples/broken/trunk.toml --service blue
+status=4 prints broken/trunk-survive.expected survive examples/broken/trunk.toml --service blue
 prints broken/tagged-trace.expected trace examples/two-bridges.toml C1 "$tagged"
 prints broken/unsettled-trace.expected trace examples/failover.toml C1 "$broadcast"
 prints broken/settled-trace.expected trace examples/failover.toml C1 "$broadcast" --settle
@@ -108,7 +108,7 @@ documents plan-file.expected plan-file.json check examples/plan-file.toml
 documents broken/ring-check.expected broken/ring-check.json check examples/broken/ring.toml
 status=4 documents access.expected access.json survive examples/access.toml
 status=4 documents access.expected access.csv survive examples/access.toml
-documents broken/trunk-survive.expected broken/trunk-survive.json \
+status=4 documents broken/trunk-survive.expected broken/trunk-survive.json \
     survive examples/broken/trunk.toml --service blue
 documents tree.expected tree.json tree examples/failover.toml
 documents broken/open-tree.expected broken/open-tree.json tree examples/broken/open.toml

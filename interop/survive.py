@@ -5,8 +5,8 @@ usage: interop/survive.py [--program FILE] [--plans N] [--seed N]
 
 Half of the plans give the states of ports, some discarding, and lists of services; what is left of their links under a
 failure is all there is. The other half have bridges that find a spanning tree, and links for all services: a settled tree
-joins all bridges that the links left join. How many ticks settling takes is not compared. What differs is told with the
-plan, with exit status 1."""
+joins all bridges that the links left join. How many ticks settling takes is not compared. Half of each are analysed with
+`--own`. What differs is told with the plan, with exit status 1."""
 import argparse
 import itertools
 import random
@@ -23,8 +23,10 @@ SERVICES = ["red", "blue", "green"]
 class Plan:
     """A random plan: links are (bridge, port, bridge, port, state of b, services or None)."""
 
-    def __init__(self, draw, is_given):
+    def __init__(self, draw, is_given, own):
         self.is_given = is_given
+        self.own = own
+        self.services = SERVICES[: draw.choice([1, 1, 2, 3])]
         self.bridges = draw.randint(2, 8)
         used = {b: 0 for b in range(1, self.bridges + 1)}
 
@@ -37,13 +39,14 @@ class Plan:
             a, b = draw.sample(range(1, self.bridges + 1), 2)
             if used[a] < 9 and used[b] < 9:
                 state = "discarding" if is_given and draw.random() < 0.3 else "forwarding"
-                listed = sorted(draw.sample(SERVICES, draw.randint(1, 2)), key=SERVICES.index) if is_given and draw.random() < 0.3 else None
+                count = draw.randint(1, min(2, len(self.services)))
+                listed = sorted(draw.sample(self.services, count), key=SERVICES.index) if is_given and draw.random() < 0.3 else None
                 self.links.append((a, port(a), b, port(b), state, listed))
         self.ports = []
         for _ in range(draw.randint(1, 10)):
             bridge = draw.randint(1, self.bridges)
             if used[bridge] < 16:
-                self.ports.append((bridge, port(bridge), draw.choice(SERVICES)))
+                self.ports.append((bridge, port(bridge), draw.choice(self.services)))
 
     def text(self):
         """The plan file."""
@@ -54,7 +57,7 @@ class Plan:
             lines += ["[[link]]", f'name = "L{n}"', f'a = "B{a}"', f"a_port = {a_port}", f'b = "B{b}"', f"b_port = {b_port}"]
             lines += [f'b_state = "{state}"'] if self.is_given else []
             lines += [f"b_services = {listed}".replace("'", '"')] if listed else []
-        for n, service in enumerate(SERVICES):
+        for n, service in enumerate(self.services):
             lines += ["[[service]]", f'name = "{service}"', f"vid = {100 + n}"]
         for n, (bridge, local, service) in enumerate(self.ports, 1):
             lines += ["[[port]]", f'name = "C{n}"', f'bridge = "B{bridge}"', f"port = {local}", f'service = "{service}"']
@@ -90,13 +93,22 @@ class Plan:
         return is_forest or not self.is_given, list(groups.values())
 
 
+def unhealthy(name, view):
+    """The reasons why a service is not healthy."""
+    is_forest, groups = view
+    reasons = ["is disconnected"] if len(groups) > 1 else []
+    reasons += [] if is_forest else ["has a forwarding loop"]
+    reasons += ["has fewer than two ports"] if sum(len(g) for g in groups) < 2 else []
+    return [f"service {name} {reason}" for reason in reasons]
+
+
 def report(plan):
     """What is to be printed, without numbers of ticks."""
     rest = "states given" if plan.is_given else "settled ticks N"
     count = len(plan.links)
     failures = [("link", n) for n in range(1, count + 1)] + [("bridge", b) for b in range(1, plan.bridges + 1)]
     failures += [("links", *two) for two in itertools.combinations(range(1, count + 1), 2)]
-    base = {s: plan.view(("nothing",), s) for s in SERVICES}
+    base = {s: plan.view(("nothing",), s) for s in plan.services}
 
     def shown(service, groups):
         return f"  service {service}:" + " |".join("".join(f" C{n}" for n in g) for g in groups)
@@ -104,27 +116,49 @@ def report(plan):
     def head(what, views):
         return f"{what} down: {rest} forest {'yes' if all(v[0] for v in views.values()) else 'no'}"
 
+    def counts(failure, port):
+        return plan.own or failure[0] != "bridge" or plan.ports[port - 1][0] != failure[1]
+
+    def is_parted(failure, old, new):
+        """Whether a group of ports that count is in several groups."""
+        judged = {n for n in old if counts(failure, n)}
+        return sum(1 for group in new if set(group) & judged) > 1
+
     lines = [head("nothing", base)]
-    for s in SERVICES:
+    for s in plan.services:
         lines += [] if base[s][0] else [f"  loop {s}"]
         lines.append(shown(s, base[s][1]))
-    quiet = parting = 0
+    reasons = {s: unhealthy(s, base[s]) for s in plan.services}
+    lines += [reason for s in plan.services for reason in reasons[s]]
+    sick = sum(1 for s in plan.services if reasons[s])
+    health = f"not healthy with nothing down: {sick} services" if sick else "healthy with nothing down"
+    lines.append(health)
+    parting = looping = 0
     for failure in failures:
-        views = {s: plan.view(failure, s) for s in SERVICES}
-        parted = {s: any(sum(1 for new in views[s][1] if set(new) & set(old)) > 1 for old in base[s][1]) for s in SERVICES}
+        views = {s: plan.view(failure, s) for s in plan.services}
+        parted = {s: any(is_parted(failure, old, views[s][1]) for old in base[s][1]) for s in plan.services}
+        is_loop = not all(v[0] for v in views.values())
         parting += any(parted.values())
-        if all(v[0] for v in views.values()) and not any(parted.values()):
-            quiet += 1
+        looping += is_loop
+        if not is_loop and not any(parted.values()):
             continue
         letter = "B" if failure[0] == "bridge" else "L"
         lines.append(head(" ".join([failure[0]] + [f"{letter}{n}" for n in failure[1:]]), views))
-        for s in SERVICES:
+        for s in plan.services:
             lines += [] if views[s][0] else [f"  loop {s}"]
             lines += [shown(s, views[s][1])] if parted[s] else []
-    if quiet:
-        lines.append(f"{quiet} of {len(failures)} failures split nothing, ticks at most N")
-    lines.append(f"{parting} of {len(failures)} failures split a service" if parting else "survives every single failure")
-    return "\n".join(lines) + "\n", 4 if parting else 0
+    every = len(failures)
+    pairs = count * (count - 1) // 2
+    lines.append(f"checked {count} links, {plan.bridges} bridges" + (f", {pairs} pairs" if pairs else ""))
+    lines += [f"{every - parting} of {every} failures disconnect nothing"] if parting < every else []
+    lines += [] if plan.is_given else ["converges within N ticks"]
+    lines += [f"{parting} of {every} failures disconnect a service"] if parting else []
+    lines += [f"{looping} of {every} failures form a forwarding loop"] if looping else []
+    if sick:
+        lines.append(health)
+    elif not parting and not looping:
+        lines.append("survives every single failure")
+    return "\n".join(lines) + "\n", 4 if sick or parting or looping else 0
 
 
 def main():
@@ -137,12 +171,13 @@ def main():
     wrong = 0
     with tempfile.TemporaryDirectory() as folder:
         for number in range(given.plans):
-            plan = Plan(draw, number % 2 == 0)
+            plan = Plan(draw, number % 2 == 0, number % 4 < 2)
             file = f"{folder}/plan.toml"
             with open(file, "w", encoding="utf-8") as it:
                 it.write(plan.text())
-            ran = subprocess.run([given.program, "survive", "--pairs", "--bridges", file], capture_output=True, text=True)
-            told = re.sub(r"(ticks|ticks at most) \d+", r"\1 N", ran.stdout)
+            options = ["--pairs", "--bridges"] + (["--own"] if plan.own else [])
+            ran = subprocess.run([given.program, "survive", *options, file], capture_output=True, text=True)
+            told = re.sub(r"(ticks|converges within) \d+", r"\1 N", ran.stdout)
             want, status = report(plan)
             if (told, ran.returncode) != (want, status):
                 wrong += 1

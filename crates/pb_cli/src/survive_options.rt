@@ -23,6 +23,9 @@ const PAIRS: &str = "Also fail each pair of links";
 /// The help of `--bridges`.
 const BRIDGES: &str = "Also fail each bridge, with all of its links";
 
+/// The help of `--own`.
+const OWN: &str = "Count the customer ports of a failed bridge as disconnected too";
+
 /// The help of `--service`.
 const SERVICE: &str = "Analyse only this service";
 
@@ -45,6 +48,13 @@ pub(crate) const ARGUMENTS: &[Argument] = &[
         name: "bridges",
         value: "",
         help: BRIDGES,
+        takes: Takes::Nothing,
+        excludes: &[],
+    },
+    Argument {
+        name: "own",
+        value: "",
+        help: OWN,
         takes: Takes::Nothing,
         excludes: &[],
     },
@@ -93,6 +103,8 @@ pub struct SurviveOptions {
     pub pairs: bool,
     /// Whether each bridge fails too.
     pub bridges: bool,
+    /// Whether the customer ports of a failed bridge count as disconnected too.
+    pub own: bool,
     /// The services that are analysed.
     pub scope: SurviveScope,
     /// The most ticks of each bridge until convergence, 1 to 1,000,000.
@@ -144,6 +156,7 @@ pub(crate) fn survive_options(
         path: String::from_str(alloc, path)?,
         pairs: given.get_flag("pairs"),
         bridges: given.get_flag("bridges"),
+        own: given.get_flag("own"),
         scope,
         ticks: ticks_of(given),
         format: report_format_of(given),

@@ -15,7 +15,8 @@ use Rattle.pb_lan.specs.declared.plan.Plan.{Plan}
 use Rattle.pb_lan.specs.declared.plan.CustomerPlan.{CustomerPlan}
 use Rattle.pb_lan.specs.declared.shape.Shape.{Shape}
 use Rattle.pb_cmd_survive.specs.Failures.{is_out}
-use Rattle.pb_cmd_survive.specs.Groups.{ports_from, ports_of, AreGroups, color_by, color_of, lead_of, site_of}
+use Rattle.pb_cmd_survive.specs.Groups.{ports_from, ports_of, is_port_out, AreGroups, color_by, color_of, lead_of}
+use Rattle.pb_cmd_survive.specs.Groups.{site_of}
 use Rattle.pb_cmd_survive.specs.Reach.{CanReach, mark_at, TellsJoined}
 use Rattle.pb_cmd_survive.specs.declared.failure.Failure.{Failure}
 use Rattle.pb_cmd_survive.specs.declared.sites.Site.{Site}
@@ -211,10 +212,10 @@ group_tells plan shape failure service vid marks m j k p q e f = (to, from)
 -- the sites that sites_of makes are the groups of the service, for the contract of groups
 pub groups_are : (plan : Plan) (shape : Shape) (failure : Failure) (service vid : ℕ) (marks : List ℕ)
     → AreMarks plan shape vid marks
-    → AreGroups plan shape failure service vid (map (site_of (color_of plan marks failure) (ports_of plan service))
-    (ports_of plan service))
+    → AreGroups plan shape failure service vid (map (site_of (color_of plan marks failure) (is_port_out plan failure)
+    (ports_of plan service)) (ports_of plan service))
 groups_are plan shape failure service vid marks m = record {
-  ports = map-back (site_of (color_of plan marks failure) (ports_of plan service)) (ports_of plan service) (λ p. refl);
+  ports = map-back site (ports_of plan service) (λ p. refl);
   together = λ s t here there. both s t (at s here) (at t there);
   named = λ s here. let i = at s here in let l = lead-there (color_of plan marks failure) (ports_of plan service)
       i.place i.port i.there in
@@ -225,20 +226,20 @@ groups_are plan shape failure service vid marks m = record {
       subst (λ (z : Site). z.group ≤ z.port) (sym i.is)
       (lead-least (color_of plan marks failure) i.port (ports_of plan service)
       (ports_rise service 1 plan.customers) i.place i.there);
+  outs = λ s here. let i = at s here in
+      subst (λ (z : Site). z.is_out ≡ is_port_out plan failure z.port) (sym i.is) refl;
 }
   where
-    at : (s : Site) → Contains (map (site_of (color_of plan marks failure) (ports_of plan service))
-        (ports_of plan service)) s → IsMapped (site_of (color_of plan marks failure) (ports_of plan service))
-        (ports_of plan service) s
-    at s here = member-map (site_of (color_of plan marks failure) (ports_of plan service)) (ports_of plan service) s
-        here
+    site : ℕ → Site
+    site = site_of (color_of plan marks failure) (is_port_out plan failure) (ports_of plan service)
 
-    both : (s t : Site) → IsMapped (site_of (color_of plan marks failure) (ports_of plan service))
-        (ports_of plan service) s
-        → IsMapped (site_of (color_of plan marks failure) (ports_of plan service)) (ports_of plan service) t
+    at : (s : Site) → Contains (map site (ports_of plan service)) s → IsMapped site (ports_of plan service) s
+    at s here = member-map site (ports_of plan service) s here
+
+    both : (s t : Site) → IsMapped site (ports_of plan service) s → IsMapped site (ports_of plan service) t
         → (s.group ≡ t.group) ↔ CanReach plan shape failure vid s.port t.port
     both s t i j =
         subst (λ (z : Site). (z.group ≡ t.group) ↔ CanReach plan shape failure vid z.port t.port) (sym i.is)
-        (subst (λ (z : Site). ((site_of (color_of plan marks failure) (ports_of plan service) i.port).group ≡ z.group)
-        ↔ CanReach plan shape failure vid i.port z.port) (sym j.is)
+        (subst (λ (z : Site). ((site i.port).group ≡ z.group) ↔ CanReach plan shape failure vid i.port z.port)
+        (sym j.is)
         (group_tells plan shape failure service vid marks m i.place j.place i.port j.port i.there j.there))

@@ -17,11 +17,15 @@ zip_one_more R (x ∷ xs) (suc i) d (z ∷ zs) y h a r =
     subst (λ n. AllZip R (take n (x ∷ xs)) ((z ∷ zs) ++ y ∷ [])) next
     (a.0, zip_one_more R xs i d zs y (omega (arith, h)) a.1 r)
 
--- a text of five parts, bracketed from the left or from the right
-pub regroup : (a b c d e : List ℕ) → (((a ++ b) ++ c) ++ d) ++ e ≡ a ++ (b ++ (c ++ (d ++ e)))
-regroup a b c d e = simp append_assoc
+-- a text of four parts, bracketed from the left or from the right
+pub regroup_four : (a b c d : List ℕ) → ((a ++ b) ++ c) ++ d ≡ a ++ (b ++ (c ++ d))
+regroup_four a b c d = simp append_assoc
 
--- the same for six parts
+-- four texts after another, as they are written and as they are defined
+pub rejoin_four : (old a b c d : List ℕ) → (((old ++ a) ++ b) ++ c) ++ d ≡ old ++ (((a ++ b) ++ c) ++ d)
+rejoin_four old a b c d = simp append_assoc
+
+-- a text of six parts, bracketed from the left or from the right
 pub regroup_six : (a b c d e f : List ℕ) → ((((a ++ b) ++ c) ++ d) ++ e) ++ f ≡ a ++ (b ++ (c ++ (d ++ (e ++ f))))
 regroup_six a b c d e f = simp append_assoc
 
@@ -71,9 +75,15 @@ text_end f start now these all e h = sym (append-nil now) ∙ ap (λ z. now ++ f
 pub rejoin : (old a n b l e : List ℕ) → ((old ++ (a ++ (n ++ b))) ++ l) ++ e ≡ old ++ ((((a ++ n) ++ b) ++ l) ++ e)
 rejoin old a n b l e = simp append_assoc
 
--- four texts after another, as they are written and as they are defined
-pub rejoin_four : (old a b c d : List ℕ) → (((old ++ a) ++ b) ++ c) ++ d ≡ old ++ (((a ++ b) ++ c) ++ d)
-rejoin_four old a b c d = simp append_assoc
+-- five texts after another, as they are written and as they are defined
+pub rejoin_five : (old a b c d e : List ℕ)
+    → ((((old ++ a) ++ b) ++ c) ++ d) ++ e ≡ old ++ ((((a ++ b) ++ c) ++ d) ++ e)
+rejoin_five old a b c d e = simp append_assoc
+
+-- the same of six
+pub rejoin_six : (old a b c d e f : List ℕ)
+    → (((((old ++ a) ++ b) ++ c) ++ d) ++ e) ++ f ≡ old ++ (((((a ++ b) ++ c) ++ d) ++ e) ++ f)
+rejoin_six old a b c d e f = simp append_assoc
 
 -- results that are all Ok have the relation with their arguments
 zip_oks : {A B : Type 0} (E : Type 0) (R : A → B → Type 0) (xs : List A) (ys : List B)

@@ -1,5 +1,5 @@
 -- The failures, and the ports that they disable.
-use Rattle.std.specs.Prelude.{ℕ, ◌+◌, Bool, false, List, [], ◌∷◌, ◌++◌, map, ◌==◌, ◌||◌, if◌then◌else◌}
+use Rattle.std.specs.Prelude.{ℕ, ◌+◌, Bool, true, false, List, [], ◌∷◌, ◌++◌, map, ◌==◌, ◌||◌, if◌then◌else◌}
 use Rattle.pb_lan.specs.Numbering.{numbers_from}
 use Rattle.pb_lan.specs.declared.event.Event.{Event}
 use Rattle.pb_lan.specs.declared.event.Event.TheVariants.{Admin}
@@ -21,6 +21,25 @@ all_failures plan kinds =
     map Link (numbers_from 1 plan.links)
     ++ (if kinds.bridges then map Bridge (numbers_from 1 plan.bridges) else [])
     ++ (if kinds.pairs then pairs_of (numbers_from 1 plan.links) else [])
+
+-- the kind of a failure
+abbrev pub is_link : Failure → Bool
+is_link (Link number) = true
+is_link Nothing = false
+is_link (Pair first second) = false
+is_link (Bridge number) = false
+
+abbrev pub is_bridge : Failure → Bool
+is_bridge (Bridge number) = true
+is_bridge Nothing = false
+is_bridge (Link number) = false
+is_bridge (Pair first second) = false
+
+abbrev pub is_pair : Failure → Bool
+is_pair (Pair first second) = true
+is_pair Nothing = false
+is_pair (Link number) = false
+is_pair (Bridge number) = false
 
 -- the failure disables the link with this number
 abbrev pub is_hit : Failure → ℕ → LinkPlan → Bool

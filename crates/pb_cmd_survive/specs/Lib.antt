@@ -3,6 +3,7 @@ pub mod Reach
 pub mod Groups
 pub mod Views
 pub mod Impacts
+pub mod Verdicts
 pub mod Reports
 pub mod Scopes
 pub mod Survivals

@@ -1,11 +1,14 @@
 -- The report on a network under failures.
-use Rattle.std.specs.Prelude.{ℕ, Bool, true, false, List, [], ◌∷◌, ◌++◌, Option, Some, None, flat_map, length, codes, ◌==◌, ◌&&◌, not, max, count_by, if◌then◌else◌}
+use Rattle.std.specs.Prelude.{ℕ, Bool, true, false, List, [], ◌∷◌, ◌++◌, Option, Some, None, flat_map, length, codes, nat_lt, ◌==◌, not, max, count_by, if◌then◌else◌}
 use Rattle.std.specs.Fmt.{decimal}
-use Rattle.std.specs.List.{list_any, list_all, zip}
+use Rattle.std.specs.List.{list_any, zip}
 use Rattle.pb_lan.specs.declared.plan.Plan.{Plan}
 use Rattle.pb_names.specs.Names.{bridge_name, link_name, port_name, service_name}
 use Rattle.pb_converge.specs.declared.rest.Rest.{Rest}
 use Rattle.pb_converge.specs.declared.rest.Rest.TheVariants.{Given, Settled, Unsettled}
+use Rattle.pb_cmd_survive.specs.Failures.{is_link, is_bridge, is_pair}
+use Rattle.pb_cmd_survive.specs.Verdicts.{is_settled, are_forests, is_split, is_healthy_service, is_healthy, is_lost, parts_view, parts, is_quiet, survives}
+use Rattle.pb_cmd_survive.specs.declared.criteria.Criteria.{Criteria}
 use Rattle.pb_cmd_survive.specs.declared.failure.Failure.{Failure}
 use Rattle.pb_cmd_survive.specs.declared.failure.Failure.TheVariants.{Nothing, Link, Pair, Bridge}
 use Rattle.pb_cmd_survive.specs.declared.impact.Impact.{Impact}
@@ -25,10 +28,7 @@ rest_text Given = codes "states given"
 rest_text (Settled ticks) = codes "settled ticks " ++ decimal ticks
 rest_text (Unsettled ticks) = codes "not settled ticks " ++ decimal ticks
 
--- the shape is a forest for each analysed service
-abbrev pub are_forests : List View → Bool
-are_forests views = list_all (λ v. v.is_forest) views
-
+-- whether the shape is a forest for each analysed service
 abbrev pub forest_text : List View → List ℕ
 forest_text views = if are_forests views then codes " forest yes" else codes " forest no"
 
@@ -61,103 +61,156 @@ service_line plan v = codes "  service " ++ service_name plan v.service ++ codes
 abbrev pub loop_line : Plan → View → List ℕ
 loop_line plan v = if v.is_forest then [] else codes "  loop " ++ service_name plan v.service ++ 10 ∷ []
 
--- two ports reached each other before, and can't any more; each is given as it was and as it is
-abbrev pub is_parted : (Site × Site) → (Site × Site) → Bool
-is_parted p q = p.0.group == q.0.group && not (p.1.group == q.1.group)
-
--- the port is the requested one, or none is requested
-abbrev pub is_asked : Option ℕ → ℕ → Bool
-is_asked None port = true
-is_asked (Some asked) port = port == asked
-
--- some requested port is disconnected from this one
-abbrev pub is_lost : Option ℕ → List (Site × Site) → (Site × Site) → Bool
-is_lost from sites q = list_any (λ p. is_asked from p.0.port && is_parted p q) sites
-
--- the failure disconnects the service
-abbrev pub parts_view : Option ℕ → (View × View) → Bool
-parts_view from v = list_any (is_lost from (zip v.0.sites v.1.sites)) (zip v.0.sites v.1.sites)
-
--- the failure disconnects some service
-abbrev pub parts : Option ℕ → Impact → Impact → Bool
-parts from base o = list_any (parts_view from) (zip base.views o.views)
-
 -- the value that is read past the end of a list
 abbrev pub no_site : Site
-no_site = record { port = 0; group = 0 }
+no_site = record { port = 0; group = 0; is_out = false }
 
 -- a port that the requested one can't reach any more, after a space
-abbrev pub lost_text : Plan → Option ℕ → List (Site × Site) → (Site × Site) → List ℕ
-lost_text plan from sites q = if is_lost from sites q then 32 ∷ port_name plan q.1.port else []
+abbrev pub lost_text : Plan → Criteria → List (Site × Site) → (Site × Site) → List ℕ
+lost_text plan criteria sites q = if is_lost criteria sites q then 32 ∷ port_name plan q.1.port else []
 
 -- the line of the ports that the requested one can't reach any more
-abbrev pub cut_off_line : Plan → ℕ → (View × View) → List ℕ
-cut_off_line plan port v =
+abbrev pub cut_off_line : Plan → Criteria → ℕ → (View × View) → List ℕ
+cut_off_line plan criteria port v =
     codes "  " ++ port_name plan port ++ codes " cut off from:"
-    ++ flat_map (lost_text plan (Some port) (zip v.0.sites v.1.sites)) (zip v.0.sites v.1.sites) ++ 10 ∷ []
+    ++ flat_map (lost_text plan criteria (zip v.0.sites v.1.sites)) (zip v.0.sites v.1.sites) ++ 10 ∷ []
 
 -- how a service is disconnected: its groups, or the ports from which the requested port is cut off
-abbrev pub parting_line : Plan → Option ℕ → (View × View) → List ℕ
-parting_line plan None v = service_line plan v.1
-parting_line plan (Some port) v = cut_off_line plan port v
+abbrev pub parting_by : Plan → Criteria → Option ℕ → (View × View) → List ℕ
+parting_by plan criteria None v = service_line plan v.1
+parting_by plan criteria (Some port) v = cut_off_line plan criteria port v
+
+abbrev pub parting_line : Plan → Criteria → (View × View) → List ℕ
+parting_line plan criteria v = parting_by plan criteria criteria.from v
 
 -- the lines of a service: one if it has a loop, and one if it is disconnected
-abbrev pub view_text : Plan → Option ℕ → (View × View) → List ℕ
-view_text plan from v = loop_line plan v.1 ++ (if parts_view from v then parting_line plan from v else [])
+abbrev pub view_text : Plan → Criteria → (View × View) → List ℕ
+view_text plan criteria v = loop_line plan v.1 ++ (if parts_view criteria v then parting_line plan criteria v else [])
 
 -- the lines with nothing down: one for each service, and one more for each loop
 abbrev pub whole_text : Plan → Impact → List ℕ
 whole_text plan o = head_line plan o ++ flat_map (λ v. loop_line plan v ++ service_line plan v) o.views
 
--- the bridges converged, or had nothing to decide
-abbrev pub is_settled : Rest → Bool
-is_settled Given = true
-is_settled (Settled ticks) = true
-is_settled (Unsettled ticks) = false
+-- a line about a service
+abbrev pub about_line : Plan → View → List ℕ → List ℕ
+about_line plan v what = codes "service " ++ service_name plan v.service ++ what ++ 10 ∷ []
 
--- the failure has no effect: the bridges converge, no service has a loop, and none is disconnected
-abbrev pub is_quiet : Option ℕ → Impact → Impact → Bool
-is_quiet from base o = is_settled o.rest && are_forests o.views && not (parts from base o)
+-- a line for each reason why a service is not healthy
+abbrev pub split_line : Plan → View → List ℕ
+split_line plan v = if is_split v.sites then about_line plan v (codes " is disconnected") else []
 
--- the lines of a failure, if it has an effect
-abbrev pub impact_text : Plan → Option ℕ → Impact → Impact → List ℕ
-impact_text plan from base o =
-    if is_quiet from base o then [] else head_line plan o ++ flat_map (view_text plan from) (zip base.views o.views)
+abbrev pub loop_reason_line : Plan → View → List ℕ
+loop_reason_line plan v = if v.is_forest then [] else about_line plan v (codes " has a forwarding loop")
 
--- the ticks of each bridge until convergence
+abbrev pub few_line : Plan → View → List ℕ
+few_line plan v = if nat_lt 1 (length v.sites) then [] else about_line plan v (codes " has fewer than two ports")
+
+abbrev pub reasons_text : Plan → View → List ℕ
+reasons_text plan v = split_line plan v ++ loop_reason_line plan v ++ few_line plan v
+
+-- how many services are not healthy
+abbrev pub unhealthy_text : List View → List ℕ
+unhealthy_text views =
+    if length views == 0 then codes "no service"
+    else decimal (count_by (λ v. not (is_healthy_service v)) views) ++ codes " services"
+
+-- a text, if the bridges do not converge
+abbrev pub unsettled_text : Impact → List ℕ → List ℕ
+unsettled_text base what = if is_settled base.rest then [] else what
+
+-- the summary of a network that is not healthy
+abbrev pub unhealthy_line : Impact → List ℕ
+unhealthy_line base =
+    codes "not healthy with nothing down: " ++ unhealthy_text base.views
+    ++ unsettled_text base (codes ", bridges do not converge") ++ 10 ∷ []
+
+-- that the network is healthy, or its summary
+abbrev pub health_line : Impact → List ℕ
+health_line base = if is_healthy base then codes "healthy with nothing down" ++ 10 ∷ [] else unhealthy_line base
+
+-- the lines of its health: each reason why it is not healthy, and the summary
+abbrev pub health_text : Plan → Impact → List ℕ
+health_text plan base =
+    unsettled_text base (codes "bridges do not converge" ++ 10 ∷ []) ++ flat_map (reasons_text plan) base.views ++ health_line base
+
+-- the lines of a failure, if it does harm
+abbrev pub impact_text : Plan → Criteria → Impact → Impact → List ℕ
+impact_text plan criteria base o =
+    if is_quiet criteria base o then [] else head_line plan o ++ flat_map (view_text plan criteria) (zip base.views o.views)
+
+-- the number of failures that were analysed, by kind
+abbrev pub kind_text : ℕ → List ℕ → List ℕ
+kind_text count what = if count == 0 then [] else codes ", " ++ decimal count ++ codes " " ++ what
+
+abbrev pub checked_line : List Impact → List ℕ
+checked_line impacts =
+    codes "checked " ++ decimal (count_by (λ o. is_link o.failure) impacts) ++ codes " links"
+    ++ kind_text (count_by (λ o. is_bridge o.failure) impacts) (codes "bridges")
+    ++ kind_text (count_by (λ o. is_pair o.failure) impacts) (codes "pairs") ++ 10 ∷ []
+
+-- the ticks of each bridge until they converged
 abbrev pub ticks_of : Rest → ℕ
 ticks_of Given = 0
 ticks_of (Settled ticks) = ticks
-ticks_of (Unsettled ticks) = ticks
+ticks_of (Unsettled ticks) = 0
 
--- those after a failure without effect
-abbrev pub quiet_ticks : Option ℕ → Impact → Impact → ℕ
-quiet_ticks from base o = if is_quiet from base o then ticks_of o.rest else 0
+-- the most of them after one of the failures
+abbrev pub slowest : List Impact → ℕ
+slowest [] = 0
+slowest (o ∷ os) = max (ticks_of o.rest) (slowest os)
 
--- the most ticks to convergence after a failure without effect
-abbrev pub slowest : Option ℕ → Impact → List Impact → ℕ
-slowest from base [] = 0
-slowest from base (o ∷ os) = max (quiet_ticks from base o) (slowest from base os)
+-- the bridges ticked and converged
+abbrev pub has_converged : Rest → Bool
+has_converged Given = false
+has_converged (Settled ticks) = true
+has_converged (Unsettled ticks) = false
 
--- the number of failures without effect
-abbrev pub quiet_count_line : ℕ → ℕ → ℕ → List ℕ
-quiet_count_line quiet all ticks = decimal quiet ++ codes " of " ++ decimal all ++ codes " failures split nothing, ticks at most " ++ decimal ticks ++ 10 ∷ []
+-- the most ticks until bridges converged, if they did after some failure
+abbrev pub ticks_line : ℕ → List ℕ
+ticks_line ticks = codes "converges within " ++ decimal ticks ++ codes " ticks" ++ 10 ∷ []
 
--- that line, if there are such failures
-abbrev pub quiet_line : ℕ → ℕ → ℕ → List ℕ
-quiet_line quiet all ticks = if quiet == 0 then [] else quiet_count_line quiet all ticks
+abbrev pub converge_line : List Impact → List ℕ
+converge_line impacts = if list_any (λ o. has_converged o.rest) impacts then ticks_line (slowest impacts) else []
 
--- the number of failures that disconnect a service
-abbrev pub parting_count_line : ℕ → ℕ → List ℕ
-parting_count_line parting all = decimal parting ++ codes " of " ++ decimal all ++ codes " failures split a service" ++ 10 ∷ []
+-- how many of all failures do what is said
+abbrev pub some_line : ℕ → ℕ → List ℕ → List ℕ
+some_line count all what = decimal count ++ codes " of " ++ decimal all ++ codes " failures " ++ what ++ 10 ∷ []
 
--- that line, or that no failure disconnects a service
-abbrev pub verdict_line : ℕ → ℕ → List ℕ
-verdict_line parting all = if parting == 0 then codes "survives every single failure" ++ 10 ∷ [] else parting_count_line parting all
+-- that line, if any does
+abbrev pub count_line : ℕ → ℕ → List ℕ → List ℕ
+count_line count all what = if count == 0 then [] else some_line count all what
+
+-- how many failures disconnect nothing, and how many do harm, by its kind
+abbrev pub sparing_line : Criteria → Impact → List Impact → List ℕ
+sparing_line criteria base impacts =
+    count_line (count_by (λ o. not (parts criteria base o)) impacts) (length impacts) (codes "disconnect nothing")
+
+abbrev pub parting_count_line : Criteria → Impact → List Impact → List ℕ
+parting_count_line criteria base impacts =
+    count_line (count_by (parts criteria base) impacts) (length impacts) (codes "disconnect a service")
+
+abbrev pub looping_line : List Impact → List ℕ
+looping_line impacts =
+    count_line (count_by (λ o. not (are_forests o.views)) impacts) (length impacts) (codes "form a forwarding loop")
+
+abbrev pub unsettled_line : List Impact → List ℕ
+unsettled_line impacts =
+    count_line (count_by (λ o. not (is_settled o.rest)) impacts) (length impacts) (codes "do not converge")
+
+-- what was checked, and how many failures do what
+abbrev pub totals_text : Criteria → Impact → List Impact → List ℕ
+totals_text criteria base impacts =
+    checked_line impacts ++ sparing_line criteria base impacts ++ converge_line impacts
+    ++ parting_count_line criteria base impacts ++ looping_line impacts ++ unsettled_line impacts
+
+-- the last line, if the counts are not the last ones
+abbrev pub last_line : Impact → Bool → List ℕ
+last_line base survived =
+    if survived then codes "survives every single failure" ++ 10 ∷ []
+    else (if is_healthy base then [] else unhealthy_line base)
 
 -- the report on a network with nothing down, and under failures
-abbrev pub report_text : Plan → Option ℕ → Impact → List Impact → List ℕ
-report_text plan from base impacts =
-    whole_text plan base ++ flat_map (impact_text plan from base) impacts
-    ++ quiet_line (count_by (is_quiet from base) impacts) (length impacts) (slowest from base impacts)
-    ++ verdict_line (count_by (parts from base) impacts) (length impacts)
+abbrev pub report_text : Plan → Criteria → Impact → List Impact → List ℕ
+report_text plan criteria base impacts =
+    whole_text plan base ++ health_text plan base ++ flat_map (impact_text plan criteria base) impacts
+    ++ totals_text criteria base impacts ++ last_line base (survives criteria base impacts)

@@ -1,13 +1,15 @@
 -- The text that `survive` prints for a plan file.
-use Rattle.std.specs.Prelude.{◌≡◌, ◌⊎◌, ℕ, List, true, false, count_by, ◌==◌, if◌then◌else◌}
+use Rattle.std.specs.Prelude.{◌≡◌, ◌⊎◌, ℕ, Bool, List, true, false, if◌then◌else◌}
 use Rattle.pb_lan.specs.declared.plan.Plan.{Plan}
 use Rattle.pb_report.specs.Refusals.{IsRefusalText}
 use Rattle.pb_service.specs.PlanFiles.{Tells, IsPlanOf}
 use Rattle.pb_service.specs.declared.port_spec.PortSpec.{PortSpec}
 use Rattle.pb_cmd_survive.specs.Failures.{all_failures}
 use Rattle.pb_cmd_survive.specs.Impacts.{IsImpact, AreImpacts}
-use Rattle.pb_cmd_survive.specs.Reports.{parts, report_text}
+use Rattle.pb_cmd_survive.specs.Reports.{report_text}
 use Rattle.pb_cmd_survive.specs.Scopes.{services_of, from_of, is_found, no_such_line}
+use Rattle.pb_cmd_survive.specs.Verdicts.{survives}
+use Rattle.pb_cmd_survive.specs.declared.criteria.Criteria.{Criteria}
 use Rattle.pb_cmd_survive.specs.declared.failure.Failure.TheVariants.{Nothing}
 use Rattle.pb_cmd_survive.specs.declared.impact.Impact.{Impact}
 use Rattle.pb_cmd_survive.specs.declared.survive.Asked.{Asked}
@@ -16,9 +18,13 @@ use Rattle.pb_cmd_survive.specs.declared.survive.Asked.{Asked}
 abbrev pub most_events : ℕ
 most_events = 1000000000
 
--- the exit status: 4 if some failure disconnects a service
-abbrev pub status_of : ℕ → ℕ
-status_of parting = if parting == 0 then 0 else 4
+-- the exit status: 0 if the network survives, and otherwise 4
+abbrev pub status_of : Bool → ℕ
+status_of survived = if survived then 0 else 4
+
+-- what counts as disconnected, by the options
+abbrev pub criteria_of : Plan → Asked → Criteria
+criteria_of plan asked = record { from = from_of plan asked.scope; own = asked.own }
 
 -- the report on the plan's network with nothing down, and under each requested failure
 pub record IsReport (plan : Plan) (asked : Asked) (status : ℕ) (text : List ℕ) : Type 0 where
@@ -27,8 +33,8 @@ pub record IsReport (plan : Plan) (asked : Asked) (status : ℕ) (text : List �
   pub is_base : IsImpact plan (services_of plan asked.scope) asked.ticks most_events Nothing base
   pub impacts : List Impact
   pub are_impacts : AreImpacts plan (services_of plan asked.scope) asked.ticks most_events (all_failures plan asked.kinds) impacts
-  pub text_is : text ≡ report_text plan (from_of plan asked.scope) base impacts
-  pub status_is : status ≡ status_of (count_by (parts (from_of plan asked.scope) base) impacts)
+  pub text_is : text ≡ report_text plan (criteria_of plan asked) base impacts
+  pub status_is : status ≡ status_of (survives (criteria_of plan asked) base impacts)
 
 -- the plan lacks the service or port of the scope
 pub record IsLacking (plan : Plan) (asked : Asked) (status : ℕ) (text : List ℕ) : Type 0 where

@@ -1,10 +1,13 @@
 //! The command `survive`: fails each link in turn, and on request each bridge and each two links, and reports which
-//! services are disconnected. It builds on pb_converge (driving), pb_forest (loops), pb_names and pb_report.
+//! services are disconnected, and whether the network is healthy with nothing down. It builds on pb_converge (driving),
+//! pb_forest (loops), pb_names and pb_report.
 //! Begin reading at `survive.rt`, [`run_survive`], then [`look_at`] and [`put_report`].
 #![tactic(auto)]
 
+mod criteria;
 mod drive;
 mod failure;
+mod health;
 mod impact;
 mod look;
 mod marks;
@@ -15,8 +18,10 @@ mod scope;
 mod sites;
 mod survive;
 mod totals;
+mod verdict;
 mod view;
 
+pub use criteria::Criteria;
 pub use drive::Patience;
 pub use failure::{Failure, Kinds, failures};
 pub use impact::Impact;

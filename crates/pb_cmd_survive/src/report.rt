@@ -1,18 +1,22 @@
 //! The report on a network under failures.
 
 ghost use Rattle.std.specs.Prelude.{◌≡◌, ◌<◌, ◌++◌, flat_map, length, slice_index_or};
-ghost use Rattle.std.specs.Prelude.{count_by, string_bytes, IfOk, OnOk};
+ghost use Rattle.std.specs.Prelude.{string_bytes, IfOk, OnOk};
 ghost use Rattle.std.specs.List.{zip};
 ghost use Rattle.pb_cmd_survive.specs.Reports.{failure_text, rest_text, forest_text, head_line, member_text};
 ghost use Rattle.pb_cmd_survive.specs.Reports.{group_text, later_text, groups_text, service_line, loop_line, lost_text};
 ghost use Rattle.pb_cmd_survive.specs.Reports.{cut_off_line, parting_line, view_text, whole_text, impact_text, no_site};
-ghost use Rattle.pb_cmd_survive.specs.Reports.{parts, report_text};
+ghost use Rattle.pb_cmd_survive.specs.Reports.{report_text};
+ghost use Rattle.pb_cmd_survive.specs.Verdicts.{survives};
 
+use crate::criteria::Criteria;
 use crate::failure::Failure;
+use crate::health::put_health;
 use crate::impact::Impact;
-use crate::parting::{are_forests, is_lost, is_quiet, parts_view};
+use crate::parting::{is_lost, parts_view};
 use crate::sites::Site;
-use crate::totals::{count_parting, put_all_quiet, put_verdict};
+use crate::totals::{put_last, put_totals};
+use crate::verdict::{are_forests, is_quiet, survives};
 use crate::view::View;
 use pb_converge::Rest;
 use pb_frame::Memory;
@@ -134,7 +138,7 @@ fn put_loop(out: &mut String, plan: &Plan, view: &View) -> Result<(), Memory>
 fn put_one_lost(
     out: &mut String,
     plan: &Plan,
-    from: Option<u8>,
+    criteria: Criteria,
     before: &[Site],
     now: &[Site],
     place: usize,
@@ -142,13 +146,13 @@ fn put_one_lost(
     requires was { place < length before.now }
     requires is { place < length now.now }
     ensures { OnOk result (string_bytes out.new ≡ string_bytes out.old
-        ++ lost_text plan.now from (zip before.now now.now) (
+        ++ lost_text plan.now criteria (zip before.now now.now) (
           slice_index_or before.now place no_site,
           slice_index_or now.now place no_site,
         )) }
 {
     let (was, is) = (before[place], now[place]);
-    if is_lost(from, before, now, was, is) {
+    if is_lost(criteria, before, now, was, is) {
         write!(out, " {}", port_name(plan, is.port))?;
     }
     Ok(())
@@ -158,15 +162,15 @@ fn put_one_lost(
 fn put_lost(
     out: &mut String,
     plan: &Plan,
-    from: Option<u8>,
+    criteria: Criteria,
     before: &[Site],
     now: &[Site],
 ) -> Result<(), Memory>
     ensures { OnOk result (string_bytes out.new ≡ string_bytes out.old
-        ++ flat_map (lost_text plan.now from (zip before.now now.now)) (zip before.now now.now)) }
+        ++ flat_map (lost_text plan.now criteria (zip before.now now.now)) (zip before.now now.now)) }
 {
     for place in 0..before.len().min(now.len()) {
-        put_one_lost(out, plan, from, before, now, place)?;
+        put_one_lost(out, plan, criteria, before, now, place)?;
     }
     Ok(())
 }
@@ -175,16 +179,17 @@ fn put_lost(
 fn put_cut_off(
     out: &mut String,
     plan: &Plan,
+    criteria: Criteria,
     port: u8,
     old: &View,
     new: &View,
 ) -> Result<(), Memory>
     ensures { OnOk result (string_bytes out.new ≡ string_bytes out.old
-        ++ cut_off_line plan.now port (old.now, new.now)) }
+        ++ cut_off_line plan.now criteria port (old.now, new.now)) }
 {
     write!(out, "  {} cut off from:", port_name(plan, port))?;
     let (before, now) = (old.sites.as_slice(), new.sites.as_slice());
-    put_lost(out, plan, Some(port), before, now)?;
+    put_lost(out, plan, criteria, before, now)?;
     out.push_str("\n")?;
     Ok(())
 }
@@ -193,16 +198,16 @@ fn put_cut_off(
 fn put_parting(
     out: &mut String,
     plan: &Plan,
-    from: Option<u8>,
+    criteria: Criteria,
     old: &View,
     new: &View,
 ) -> Result<(), Memory>
     ensures { OnOk result (string_bytes out.new ≡ string_bytes out.old
-        ++ parting_line plan.now from (old.now, new.now)) }
+        ++ parting_line plan.now criteria (old.now, new.now)) }
 {
-    match from {
+    match criteria.from {
         None => put_service(out, plan, new),
-        Some(port) => put_cut_off(out, plan, port, old, new),
+        Some(port) => put_cut_off(out, plan, criteria, port, old, new),
     }
 }
 
@@ -210,15 +215,16 @@ fn put_parting(
 fn put_view(
     out: &mut String,
     plan: &Plan,
-    from: Option<u8>,
+    criteria: Criteria,
     old: &View,
     new: &View,
 ) -> Result<(), Memory>
-    ensures { OnOk result (string_bytes out.new ≡ string_bytes out.old ++ view_text plan.now from (old.now, new.now)) }
+    ensures { OnOk result (string_bytes out.new ≡ string_bytes out.old
+        ++ view_text plan.now criteria (old.now, new.now)) }
 {
     put_loop(out, plan, new)?;
-    if parts_view(from, old, new) {
-        put_parting(out, plan, from, old, new)?;
+    if parts_view(criteria, old, new) {
+        put_parting(out, plan, criteria, old, new)?;
     }
     Ok(())
 }
@@ -227,15 +233,15 @@ fn put_view(
 fn put_views(
     out: &mut String,
     plan: &Plan,
-    from: Option<u8>,
+    criteria: Criteria,
     old: &[View],
     new: &[View],
 ) -> Result<(), Memory>
     ensures { OnOk result (string_bytes out.new ≡ string_bytes out.old
-        ++ flat_map (view_text plan.now from) (zip old.now new.now)) }
+        ++ flat_map (view_text plan.now criteria) (zip old.now new.now)) }
 {
     for place in 0..old.len().min(new.len()) {
-        put_view(out, plan, from, &old[place], &new[place])?;
+        put_view(out, plan, criteria, &old[place], &new[place])?;
     }
     Ok(())
 }
@@ -256,21 +262,21 @@ fn put_whole(out: &mut String, plan: &Plan, impact: &Impact) -> Result<(), Memor
 fn put_impact(
     out: &mut String,
     plan: &Plan,
-    from: Option<u8>,
+    criteria: Criteria,
     base: &Impact,
     impact: &Impact,
 ) -> Result<(), Memory>
     ensures { OnOk result (string_bytes out.new ≡ string_bytes out.old
-        ++ impact_text plan.now from base.now impact.now) }
+        ++ impact_text plan.now criteria base.now impact.now) }
 {
-    if is_quiet(from, base, impact) {
+    if is_quiet(criteria, base, impact) {
         return Ok(());
     }
     put_head(out, plan, impact)?;
     put_views(
         out,
         plan,
-        from,
+        criteria,
         base.views.as_slice(),
         impact.views.as_slice(),
     )
@@ -280,27 +286,28 @@ fn put_impact(
 fn put_impacts(
     out: &mut String,
     plan: &Plan,
-    from: Option<u8>,
+    criteria: Criteria,
     base: &Impact,
     impacts: &[Impact],
 ) -> Result<(), Memory>
     ensures { OnOk result (string_bytes out.new ≡ string_bytes out.old
-        ++ flat_map (impact_text plan.now from base.now) impacts.now) }
+        ++ flat_map (impact_text plan.now criteria base.now) impacts.now) }
 {
     for impact in impacts {
-        put_impact(out, plan, from, base, impact)?;
+        put_impact(out, plan, criteria, base, impact)?;
     }
     Ok(())
 }
 
-/// Appends the report on a network with nothing down and under failures. Returns how many of the failures split a
-/// service.
+/// Appends the report on a network with nothing down and under failures. Returns whether the network survives.
 ///
 /// First come the lines of the network with nothing down: whether the bridges converged and after how many ticks of
-/// each, whether the active links are a forest for each service, and the groups of each service's customer ports. Then
-/// each failure with an effect has the same lines, with the services that it disconnects. Last come the number of
-/// failures without effect, with the most ticks to convergence after one of them, and the number of failures that
-/// disconnect a service. If `from` is a customer port's number, only ports that this one can't reach any more count.
+/// each, whether the active links are a forest for each service, the groups of each service's customer ports, and
+/// whether it is healthy: the bridges converge, and each service has two ports or more, all connected, and no loop.
+/// Then each failure that does harm has the same lines, with the services that it disconnects. Last come the kinds of
+/// failures, the most ticks to convergence, and how many failures do which harm. The last line is the verdict. It says
+/// that the network survives only if it is healthy and no failure disconnects a service, leaves a loop, or keeps the
+/// bridges from converging. `criteria` has the ports that count as disconnected.
 ///
 /// # Errors
 ///
@@ -308,18 +315,19 @@ fn put_impacts(
 pub fn put_report(
     out: &mut String,
     plan: &Plan,
-    from: Option<u8>,
+    criteria: Criteria,
     base: &Impact,
     impacts: &[Impact],
-) -> Result<usize, Memory>
+) -> Result<bool, Memory>
     ensures text { OnOk result (string_bytes out.new ≡ string_bytes out.old
-        ++ report_text plan.now from base.now impacts.now) }
-    ensures parting { IfOk result (λ parting. parting ≡ count_by (parts from base.now) impacts.now) }
+        ++ report_text plan.now criteria base.now impacts.now) }
+    ensures survives { IfOk result (λ survived. survived ≡ survives criteria base.now impacts.now) }
 {
     put_whole(out, plan, base)?;
-    put_impacts(out, plan, from, base, impacts)?;
-    put_all_quiet(out, from, base, impacts)?;
-    let parting = count_parting(from, base, impacts);
-    put_verdict(out, parting, impacts.len())?;
-    Ok(parting)
+    put_health(out, plan, base)?;
+    put_impacts(out, plan, criteria, base, impacts)?;
+    put_totals(out, criteria, base, impacts)?;
+    let survived = survives(criteria, base, impacts);
+    put_last(out, base, survived)?;
+    Ok(survived)
 }

@@ -4,7 +4,7 @@ ghost use Rattle.std.specs.Prelude.{◌≡◌, ◌<◌, map, length, IfOk};
 ghost use Rattle.pb_forest.specs.ServiceVids.{vid_numbered};
 ghost use Rattle.pb_lan.specs.Plans.{IsSound};
 ghost use Rattle.pb_cmd_survive.specs.Failures.{is_out};
-ghost use Rattle.pb_cmd_survive.specs.Groups.{ports_of, color_of, lead_of, site_of, AreGroups};
+ghost use Rattle.pb_cmd_survive.specs.Groups.{ports_of, is_port_out, color_of, lead_of, site_of, AreGroups};
 
 use crate::failure::Failure;
 use crate::marks::marks;
@@ -20,6 +20,8 @@ pub struct Site {
     pub port: u8,
     /// The number of the first port in its group.
     pub group: u8,
+    /// Whether its bridge failed.
+    pub is_out: bool,
 }
 
 /// Checks whether the failure is that of the bridge.
@@ -59,6 +61,16 @@ fn color_of(plan: &Plan, marks: &[u8; 32], failure: Failure, port: u8) -> u8
     }
 }
 
+/// Checks whether the failure is that of the bridge of a customer port.
+fn is_port_out(plan: &Plan, failure: Failure, port: u8) -> bool
+    ensures { result ≡ is_port_out plan.now failure port }
+{
+    match numbered(plan.customers.as_slice(), port as usize) {
+        None => false,
+        Some(customer) => is_out(failure, customer.bridge),
+    }
+}
+
 /// Returns the first of the ports that reaches this one.
 fn lead_of(plan: &Plan, marks: &[u8; 32], failure: Failure, ports: &[u8], port: u8) -> u8
     requires { IsSound plan.now }
@@ -83,13 +95,15 @@ fn sites_of(
 ) -> Result<Vec<Site>, Memory>
     requires { IsSound plan.now }
     ensures { IfOk result (λ sites.
-        sites.items ≡ map (site_of (color_of plan.now marks.now failure) ports.now) ports.now) }
+        sites.items ≡ map (site_of (color_of plan.now marks.now failure) (is_port_out plan.now failure) ports.now)
+        ports.now) }
 {
     let mut sites = Vec::with_capacity(alloc, ports.len())?;
     for port in ports {
         sites.push(Site {
             port: *port,
             group: lead_of(plan, marks, failure, ports, *port),
+            is_out: is_port_out(plan, failure, *port),
         })?;
     }
     Ok(sites)
@@ -99,7 +113,7 @@ fn sites_of(
 ///
 /// Two ports have one group if and only if links that are active for the service join their bridges. A link is active
 /// if both its ends are Forwarding and members of the service (IEEE 802.1Q clause 8.8). If a bridge failed, each of its
-/// customer ports is alone, and reaches only itself. `service` is a service's number, from 1.
+/// customer ports is alone, reaches only itself, and is marked (`is_out`). `service` is a service's number, from 1.
 ///
 /// # Errors
 ///

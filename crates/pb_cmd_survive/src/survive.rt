@@ -5,8 +5,9 @@ ghost use Rattle.std.specs.Io.KnownBytes.{Appends, Keeps};
 ghost use Rattle.pb_lan.specs.Plans.{IsSound};
 ghost use Rattle.pb_cmd_survive.specs.Scopes.{is_found};
 ghost use Rattle.std.specs.Prelude.{true};
-ghost use Rattle.pb_cmd_survive.specs.Survivals.{IsReport, IsLacking, IsSurviveText, status_of};
+ghost use Rattle.pb_cmd_survive.specs.Survivals.{IsReport, IsLacking, IsSurviveText, status_of, criteria_of};
 
+use crate::criteria::Criteria;
 use crate::drive::Patience;
 use crate::failure::{Failure, Kinds, failures};
 use crate::look::{look_at, look_at_all};
@@ -22,7 +23,7 @@ use std::alloc::Global;
 use std::io::Write;
 use std::thread::Threads;
 
-/// The exit status if no failure disconnects a service.
+/// The exit status if the network survives.
 const WHOLE: u8 = 0;
 
 /// The exit status if the file is not a valid plan.
@@ -31,7 +32,7 @@ const REFUSED: u8 = 1;
 /// The exit status if the plan lacks the requested service or port.
 const LACKING: u8 = 2;
 
-/// The exit status if a failure disconnects a service.
+/// The exit status if the network does not survive.
 const PARTED: u8 = 4;
 
 /// The most events besides ticks until convergence.
@@ -44,15 +45,28 @@ pub struct Asked<'a> {
     pub kinds: Kinds,
     /// The services to analyse.
     pub scope: Scope<'a>,
+    /// Whether the customer ports of a failed bridge count as disconnected too.
+    pub own: bool,
     /// The most ticks of each bridge until convergence.
     pub ticks: u32,
 }
 
-/// Returns the exit status for the number of failures that disconnect a service.
-fn status_of(parting: usize) -> u8
-    ensures { result ≡ status_of parting }
+/// Returns the exit status for a network that survives or does not.
+fn status_of(survived: bool) -> u8
+    ensures { result ≡ status_of survived }
 {
-    if parting == 0 { WHOLE } else { PARTED }
+    if survived { WHOLE } else { PARTED }
+}
+
+/// Returns what counts as disconnected, by the options.
+fn criteria_of(plan: &Plan, asked: &Asked<'_>) -> Criteria
+    requires { IsSound plan.now }
+    ensures { result ≡ criteria_of plan.now asked.now }
+{
+    Criteria {
+        from: from_of(plan, &asked.scope),
+        own: asked.own,
+    }
 }
 
 /// Analyses a plan's network with nothing down and under each failure, and appends the report. Returns the exit status.
@@ -85,9 +99,9 @@ fn put_looks<R: Threads + Sync, V: FailureProgress>(
         patience,
         progress,
     )?;
-    let from = from_of(plan, &asked.scope);
-    let parting = put_report(out, plan, from, &base, impacts.as_slice())?;
-    Ok(status_of(parting))
+    let criteria = criteria_of(plan, asked);
+    let survived = put_report(out, plan, criteria, &base, impacts.as_slice())?;
+    Ok(status_of(survived))
 }
 
 /// Appends the report on a plan, or that it lacks the requested service or port. Returns the exit status.
@@ -144,10 +158,10 @@ fn put_survive<R: Threads + Sync, V: FailureProgress>(
 ///
 /// | Exit status | When | Text |
 /// |---|---|---|
-/// | 0 | no failure disconnects a service | the report |
+/// | 0 | the network survives: it is healthy, and no failure does harm | the report |
 /// | 1 | the file is not a valid plan | `plan: N WORD`, as `check` prints it |
 /// | 2 | the plan lacks the service or port of the scope | `no such service NAME` or `no such port NAME` |
-/// | 4 | a failure disconnects a service | the report |
+/// | 4 | the network does not survive | the report |
 ///
 /// # Errors
 ///

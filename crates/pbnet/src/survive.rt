@@ -55,6 +55,7 @@ where
             pairs: options.pairs,
         },
         scope: scope_of(&options.scope),
+        own: options.own,
         ticks: options.ticks,
     };
     let looks = Looks::new(rt, is_shown);

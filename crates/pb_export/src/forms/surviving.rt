@@ -19,11 +19,36 @@ const SETTLED: &[Choice] = choices![
     ("not settled ticks ", Said::No),
 ];
 
-/// No failure disconnects a service.
+/// The network survives.
 const SURVIVES: &[Choice] = choices![("every single failure", Said::Yes),];
 
-/// Some failures split a service.
-const PARTS: &[Choice] = choices![(" failures split a service", Said::No),];
+/// Some failures do harm.
+const PARTS: &[Choice] = choices![(" failures disconnect a service", Said::No),];
+
+/// Some failures leave a loop.
+const FORMS_LOOPS: &[Choice] = choices![(" failures form a forwarding loop", Said::No),];
+
+/// The bridges do not converge after some failures.
+const KEEPS_GOING: &[Choice] = choices![(" failures do not converge", Said::No),];
+
+/// A network that is not healthy does not survive.
+const NEVER: &[Choice] = choices![("", Said::No),];
+
+/// The network is healthy.
+const IS_HEALTHY: &[Choice] = choices![("with nothing down", Said::Yes),];
+
+/// The network is not healthy, and whether its bridges converge.
+const IS_UNHEALTHY: &[Choice] = choices![(", bridges do not converge", Said::No), ("", Said::No),];
+
+/// Why the network is not healthy.
+const FAULTS: &[Choice] = choices![("do not converge", Said::Word("not converged")),];
+
+/// Why a service is not healthy.
+const SERVICE_FAULTS: &[Choice] = choices![
+    ("is disconnected", Said::Word("disconnected")),
+    ("has a forwarding loop", Said::Word("loop")),
+    ("has fewer than two ports", Said::Word("too few ports")),
+];
 
 /// The network with nothing down.
 const CALM: &[Slot] = slots![
@@ -81,16 +106,65 @@ const CUT_OFF: &[Slot] = slots![
     ("from", Kind::Words, ""),
 ];
 
-/// How many failures have no effect, and the most ticks to convergence after them.
-const QUIET: &[Slot] = slots![
+/// The bridges are not healthy with nothing down.
+const BRIDGES_FAULT: &[Slot] = slots![("fault", Kind::OneOf(FAULTS), ""),];
+
+/// A service is not healthy with nothing down.
+const SERVICE_FAULT: &[Slot] = slots![
+    ("service", Kind::Text, " "),
+    ("fault", Kind::OneOf(SERVICE_FAULTS), ""),
+];
+
+/// The network is healthy with nothing down.
+const HEALTHY: &[Slot] = slots![("healthy", Kind::OneOf(IS_HEALTHY), ""),];
+
+/// Services are not healthy with nothing down.
+const UNHEALTHY: &[Slot] = slots![
+    ("unhealthy_services", Kind::Number, " services"),
+    ("healthy", Kind::OneOf(IS_UNHEALTHY), ""),
+    ("survives", Kind::OneOf(NEVER), ""),
+];
+
+/// There is no service.
+const SERVICELESS: &[Slot] = slots![
+    ("healthy", Kind::OneOf(IS_UNHEALTHY), ""),
+    ("survives", Kind::OneOf(NEVER), ""),
+];
+
+/// Links failed.
+const LINKS: &[Slot] = slots![("checked_links", Kind::Number, " links"),];
+
+/// Links and bridges failed.
+const LINKS_BRIDGES: &[Slot] = slots![
+    ("checked_links", Kind::Number, " links, "),
+    ("checked_bridges", Kind::Number, " bridges"),
+];
+
+/// Links and pairs of links failed.
+const LINKS_PAIRS: &[Slot] = slots![
+    ("checked_links", Kind::Number, " links, "),
+    ("checked_pairs", Kind::Number, " pairs"),
+];
+
+/// Links, bridges and pairs of links failed.
+const LINKS_BRIDGES_PAIRS: &[Slot] = slots![
+    ("checked_links", Kind::Number, " links, "),
+    ("checked_bridges", Kind::Number, " bridges, "),
+    ("checked_pairs", Kind::Number, " pairs"),
+];
+
+/// How many failures disconnect nothing.
+const SPARING: &[Slot] = slots![
     ("part_nothing", Kind::Number, " of "),
     (
         "failures_tried",
         Kind::Number,
-        " failures split nothing, ticks at most "
+        " failures disconnect nothing"
     ),
-    ("most_ticks", Kind::Number, ""),
 ];
+
+/// The most ticks to convergence after a failure.
+const CONVERGING: &[Slot] = slots![("most_ticks", Kind::Number, " ticks"),];
 
 /// How many failures disconnect a service.
 const PARTING: &[Slot] = slots![
@@ -99,7 +173,21 @@ const PARTING: &[Slot] = slots![
     ("survives", Kind::OneOf(PARTS), ""),
 ];
 
-/// That no failure disconnects a service.
+/// How many failures leave a service with a forwarding loop.
+const LOOPING: &[Slot] = slots![
+    ("form_a_loop", Kind::Number, " of "),
+    ("failures_tried", Kind::Number, ""),
+    ("survives", Kind::OneOf(FORMS_LOOPS), ""),
+];
+
+/// After how many failures the bridges do not converge.
+const UNSETTLED: &[Slot] = slots![
+    ("do_not_converge", Kind::Number, " of "),
+    ("failures_tried", Kind::Number, ""),
+    ("survives", Kind::OneOf(KEEPS_GOING), ""),
+];
+
+/// That the network survives.
 const SURVIVING: &[Slot] = slots![("survives", Kind::OneOf(SURVIVES), ""),];
 
 /// The plan lacks the service with a name.
@@ -123,8 +211,20 @@ const LINES: &[Template] = &[
     template!("loops", "  loop ", RING),
     template!("services", "  service ", SERVICE),
     template!("cut_off", "  ", CUT_OFF),
-    template!("", "", QUIET),
+    template!("unhealthy", "bridges ", BRIDGES_FAULT),
+    template!("unhealthy", "service ", SERVICE_FAULT),
+    template!("", "healthy ", HEALTHY),
+    template!("", "not healthy with nothing down: ", UNHEALTHY),
+    template!("", "not healthy with nothing down: no service", SERVICELESS),
+    template!("", "checked ", LINKS),
+    template!("", "checked ", LINKS_BRIDGES),
+    template!("", "checked ", LINKS_PAIRS),
+    template!("", "checked ", LINKS_BRIDGES_PAIRS),
+    template!("", "", SPARING),
+    template!("", "converges within ", CONVERGING),
     template!("", "", PARTING),
+    template!("", "", LOOPING),
+    template!("", "", UNSETTLED),
     template!("", "survives ", SURVIVING),
     template!("no_such", "no such service ", NO_SERVICE),
     template!("no_such", "no such port ", NO_PORT),
@@ -136,7 +236,11 @@ const LINES: &[Template] = &[
 
 /// The lists of the document.
 const LISTS: &[ListForm] = &[
-    list!("nothing_down", ListShape::Single, &["loops", "services"]),
+    list!(
+        "nothing_down",
+        ListShape::Single,
+        &["loops", "services", "unhealthy"]
+    ),
     list!(
         "failures",
         ListShape::Objects,

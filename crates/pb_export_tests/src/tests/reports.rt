@@ -10,10 +10,13 @@ pub(super) const COUNTED: &str =
 /// A network under failures.
 pub(super) const FAILED: &str =
     "nothing down: settled ticks 3 forest no\n  loop red\n  service red: C1 C2 | C3 | C4\n\
+    service red is disconnected\nservice red has a forwarding loop\nnot healthy with nothing down: 1 services\n\
     link ring5 down: settled ticks 3 forest yes\n  service red: C1 | C2\n\
     links a b down: not settled ticks 200 forest no\n  C1 cut off from: C2 C3\n\
-    bridge B1 down: states given forest yes\n7 of 10 failures split nothing, ticks at most 7\n\
-    3 of 10 failures split a service\n";
+    bridge B1 down: states given forest yes\nchecked 5 links, 3 bridges, 2 pairs\n\
+    7 of 10 failures disconnect nothing\nconverges within 7 ticks\n3 of 10 failures disconnect a service\n\
+    1 of 10 failures form a forwarding loop\n2 of 10 failures do not converge\n\
+    not healthy with nothing down: 1 services\n";
 
 /// Reports of `check`.
 pub(super) const CHECKS: &[Said] = &[
@@ -137,18 +140,41 @@ pub(super) const SURVIVALS: &[Said] = &[
     Said {
         text: FAILED,
         json: r#"{"nothing_down": {"settled": true, "ticks": 3, "forest": false, "loops": [{"service": "red"}],
-                "services": [{"name": "red", "groups": [["C1", "C2"], ["C3"], ["C4"]]}]},
+                "services": [{"name": "red", "groups": [["C1", "C2"], ["C3"], ["C4"]]}],
+                "unhealthy": [{"service": "red", "fault": "disconnected"}, {"service": "red", "fault": "loop"}]},
             "failures": [
                 {"down": "link", "name": "ring5", "settled": true, "ticks": 3, "forest": true, "loops": [],
                     "cut_off": [], "services": [{"name": "red", "groups": [["C1"], ["C2"]]}]},
                 {"down": "links", "name": "a", "other": "b", "settled": false, "ticks": 200, "forest": false,
                     "loops": [], "services": [], "cut_off": [{"port": "C1", "from": ["C2", "C3"]}]},
                 {"down": "bridge", "name": "B1", "forest": true, "loops": [], "services": [], "cut_off": []}],
-            "part_nothing": 7, "failures_tried": 10, "most_ticks": 7, "part_a_service": 3, "survives": false}"#,
+            "healthy": false, "unhealthy_services": 1, "checked_links": 5, "checked_bridges": 3, "checked_pairs": 2,
+            "part_nothing": 7, "failures_tried": 10, "most_ticks": 7, "part_a_service": 3, "form_a_loop": 1,
+            "do_not_converge": 2, "survives": false}"#,
     },
     Said {
-        text: "nothing down: states given forest yes\nsurvives every single failure\n",
-        json: r#"{"nothing_down": {"forest": true, "loops": [], "services": []}, "failures": [], "survives": true}"#,
+        text: "nothing down: states given forest yes\n  service red: C1 C2\nhealthy with nothing down\n\
+            checked 2 links, 1 pairs\n3 of 3 failures disconnect nothing\nsurvives every single failure\n",
+        json: r#"{"nothing_down": {"forest": true, "loops": [], "unhealthy": [],
+                "services": [{"name": "red", "groups": [["C1", "C2"]]}]}, "failures": [], "healthy": true,
+            "checked_links": 2, "checked_pairs": 1, "part_nothing": 3, "failures_tried": 3, "survives": true}"#,
+    },
+    Said {
+        text: "nothing down: not settled ticks 9 forest yes\n  service red: C1\nbridges do not converge\n\
+            service red has fewer than two ports\n\
+            not healthy with nothing down: 1 services, bridges do not converge\nchecked 0 links, 1 bridges\n\
+            not healthy with nothing down: 1 services, bridges do not converge\n",
+        json: r#"{"nothing_down": {"settled": false, "ticks": 9, "forest": true, "loops": [],
+                "services": [{"name": "red", "groups": [["C1"]]}],
+                "unhealthy": [{"fault": "not converged"}, {"service": "red", "fault": "too few ports"}]},
+            "failures": [], "healthy": false, "unhealthy_services": 1, "checked_links": 0, "checked_bridges": 1,
+            "survives": false}"#,
+    },
+    Said {
+        text: "nothing down: states given forest yes\nnot healthy with nothing down: no service\nchecked 0 links\n\
+            not healthy with nothing down: no service\n",
+        json: r#"{"nothing_down": {"forest": true, "loops": [], "services": [], "unhealthy": []}, "failures": [],
+            "healthy": false, "checked_links": 0, "survives": false}"#,
     },
     Said {
         text: "no such port C9\n",

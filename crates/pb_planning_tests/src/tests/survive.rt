@@ -39,6 +39,7 @@ struct Row<'a> {
     draft: &'a Draft<'a>,
     kinds: Kinds,
     scope: Scope<'a>,
+    own: bool,
     ticks: u32,
     status: u8,
     text: &'a str,
@@ -50,6 +51,7 @@ fn says<R: Abort + Threads + Sync>(rt: &R, alloc: Global, row: &Row<'_>) -> Resu
     let asked = Asked {
         kinds: row.kinds,
         scope: row.scope,
+        own: row.own,
         ticks: row.ticks,
     };
     for _ in 0..2 {
@@ -69,6 +71,7 @@ fn over_red<'a>(draft: &'a Draft<'a>, kinds: Kinds, status: u8, text: &'a str) -
         draft,
         kinds,
         scope: Scope::Service("red"),
+        own: false,
         ticks: 200,
         status,
         text,
@@ -91,18 +94,33 @@ fn a_ring_survives_each_link_and_no_two(rt: HostRuntime) -> Result<(), Fail> {
 }
 
 #[test]
-fn a_failed_bridge_leaves_its_ports_alone(rt: HostRuntime) -> Result<(), Fail> {
+fn a_ring_survives_each_bridge(rt: HostRuntime) -> Result<(), Fail> {
     let alloc = rt.alloc();
     says(
         &rt,
         alloc,
-        &over_red(&networks::RING, BRIDGES, 4, texts::ALONE),
+        &over_red(&networks::RING, BRIDGES, 0, texts::BRIDGES),
     )?;
+    let own = Row {
+        own: true,
+        ..over_red(&networks::RING, BRIDGES, 4, texts::OWN)
+    };
+    says(&rt, alloc, &own)
+}
+
+#[test]
+fn a_failed_bridge_disconnects_others(rt: HostRuntime) -> Result<(), Fail> {
+    let alloc = rt.alloc();
     says(
         &rt,
         alloc,
         &over_red(&networks::SHARED, BRIDGES, 4, texts::SHARED),
-    )
+    )?;
+    let from = Row {
+        scope: Scope::From("C1"),
+        ..over_red(&networks::SHARED, BRIDGES, 4, texts::FROM_SHARED)
+    };
+    says(&rt, alloc, &from)
 }
 
 #[test]
@@ -142,11 +160,36 @@ fn a_given_tree_loses_what_is_behind_a_link(rt: HostRuntime) -> Result<(), Fail>
         &rt,
         alloc,
         &over_red(&networks::STAR, LINKS, 4, texts::STAR),
+    )
+}
+
+#[test]
+fn a_closed_ring_does_not_survive(rt: HostRuntime) -> Result<(), Fail> {
+    let alloc = rt.alloc();
+    says(
+        &rt,
+        alloc,
+        &over_red(&networks::LOOPING, LINKS, 4, texts::LOOPING),
     )?;
     says(
         &rt,
         alloc,
-        &over_red(&networks::LOOPING, LINKS, 0, texts::LOOPING),
+        &over_red(&networks::THREEFOLD, LINKS, 4, texts::TWO_LOOPS),
+    )
+}
+
+#[test]
+fn a_disconnected_service_does_not_survive(rt: HostRuntime) -> Result<(), Fail> {
+    let alloc = rt.alloc();
+    let all = Row {
+        scope: Scope::All,
+        ..over_red(&networks::APART, LINKS, 4, texts::CUT)
+    };
+    says(&rt, alloc, &all)?;
+    says(
+        &rt,
+        alloc,
+        &over_red(&networks::LONELY, LINKS, 4, texts::ONE_PORT),
     )
 }
 
@@ -175,7 +218,12 @@ fn bridges_that_do_not_settle_are_told(rt: HostRuntime) -> Result<(), Fail> {
         ticks: 2,
         ..over_red(&networks::RING, LINKS, 4, texts::UNSETTLED)
     };
-    says(&rt, rt.alloc(), &short)
+    says(&rt, rt.alloc(), &short)?;
+    let unready = Row {
+        ticks: 1,
+        ..over_red(&networks::PARALLEL, LINKS, 4, texts::UNREADY)
+    };
+    says(&rt, rt.alloc(), &unready)
 }
 
 #[test]
@@ -199,6 +247,7 @@ fn what_is_lacking_is_told(rt: HostRuntime) -> Result<(), Fail> {
 const ANY: Asked = Asked {
     kinds: LINKS,
     scope: Scope::All,
+    own: false,
     ticks: 200,
 };
 
@@ -215,12 +264,12 @@ fn a_refused_file_tells_the_rule(rt: HostRuntime) -> Result<(), Fail> {
 }
 
 #[test]
-fn an_empty_plan_survives(rt: HostRuntime) -> Result<(), Fail> {
+fn a_plan_without_service_does_not_survive(rt: HostRuntime) -> Result<(), Fail> {
     let alloc = rt.alloc();
     let mut output = Vec::new(alloc);
     let progress = Counted::new();
     let result = run_survive(&rt, alloc, b"", &ANY, &progress, &mut output);
-    assert_eq!(rt; result, Ok(0));
+    assert_eq!(rt; result, Ok(4));
     assert_eq!(rt; progress.counts(), (0, 0, 1));
     assert!(rt; output.as_slice() == texts::EMPTY.as_bytes());
     Ok(())

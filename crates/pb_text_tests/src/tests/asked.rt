@@ -110,6 +110,7 @@ fn is_look(told: &SurviveOptions, look: &Look) -> bool {
     told.path.as_str() == look.path
         && told.pairs == look.pairs
         && told.bridges == look.bridges
+        && told.own == look.own
         && is_scope(&told.scope, look.of)
         && told.ticks == look.ticks
         && told.format == ReportFormat::Text

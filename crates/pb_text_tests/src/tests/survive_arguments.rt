@@ -9,6 +9,7 @@ const LINKS: Look = Look {
     path: "a",
     pairs: false,
     bridges: false,
+    own: false,
     of: Of::All,
     ticks: 200,
 };
@@ -27,6 +28,14 @@ const LOOKS: &[Row] = &[
         &["survive", "a", "--bridges"],
         Wanted::Survive(Look {
             bridges: true,
+            ..LINKS
+        }),
+    ),
+    (
+        &["survive", "a", "--own", "--bridges"],
+        Wanted::Survive(Look {
+            bridges: true,
+            own: true,
             ..LINKS
         }),
     ),

@@ -45,6 +45,8 @@ pub(super) struct Look {
     pub(super) pairs: bool,
     /// Whether bridges fail too.
     pub(super) bridges: bool,
+    /// Whether the ports of a failed bridge count too.
+    pub(super) own: bool,
     pub(super) of: Of,
     pub(super) ticks: u32,
 }

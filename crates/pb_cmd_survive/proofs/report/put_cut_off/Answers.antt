@@ -1,6 +1,6 @@
 use Rattle.std.proofs.Common.{◌≡◌, ◌++◌, List, [], ◌∷◌, flat_map, string_bytes, ap, ◌∙◌}
 use Rattle.std.specs.List.{zip}
-use Rattle.std.specs.Prelude.{codes, Some}
+use Rattle.std.specs.Prelude.{codes}
 use Rattle.pb_names.specs.Names.{port_name}
 use Rattle.pb_cmd_survive.specs.Reports.{lost_text}
 use Rattle.pb_cmd_survive.specs.declared.sites.Site.{Site}
@@ -11,10 +11,10 @@ pub returns : goal.returns
 returns c =
     let old = string_bytes c.args.out.now in
     let start = string_bytes c.write.new.self in
-    let told = λ (before now : List Site). flat_map (lost_text c.args.plan.now (Some c.args.port) (zip before now))
+    let told = λ (before now : List Site). flat_map (lost_text c.args.plan.now c.args.criteria (zip before now))
     (zip before now) in
     let pairs = zip c.args.old.now.sites c.args.new.now.sites in
-    let lost = flat_map (lost_text c.args.plan.now (Some c.args.port) pairs) pairs in
+    let lost = flat_map (lost_text c.args.plan.now c.args.criteria pairs) pairs in
     let head : string_bytes c.write.new.self ≡ old
     ++ (codes "  " ++ (port_name c.args.plan.now c.args.port ++ codes " cut off from:")) =
     c.in_ok-write.ensures.bytes ∙ ap (λ n. old ++ (codes "  " ++ (n ++ codes " cut off from:"))) c.port_name.ensures in

@@ -11,7 +11,7 @@ loop-place-preserved c =
     let i = c.loop-place.place in
     let was : i < length before = omega (arith, c.loop-place-test.true, c.min-place-end.ensures) in
     let is : i < length now = omega (arith, c.loop-place-test.true, c.min-place-end.ensures) in
-    text_more (lost_text c.args.plan.now c.args.from (zip before now)) (string_bytes c.args.out.now)
+    text_more (lost_text c.args.plan.now c.args.criteria (zip before now)) (string_bytes c.args.out.now)
     (string_bytes c.loop-place.out) (string_bytes c.put_one_lost.new.out)
     (get_or before i no_site, get_or now i no_site) (zip (drop i before) (drop i now))
     (zip (drop (i + 1) before) (drop (i + 1) now)) (zip before now)
@@ -23,6 +23,6 @@ returns c =
     let now = c.args.now.now in
     let i = c.loop-place.place in
     let past : min (length before) (length now) ≤ i = omega (arith, c.loop-place-test.false, c.min-place-end.ensures) in
-    text_end (lost_text c.args.plan.now c.args.from (zip before now)) (string_bytes c.args.out.now)
+    text_end (lost_text c.args.plan.now c.args.criteria (zip before now)) (string_bytes c.args.out.now)
     (string_bytes c.loop-place.out)
     (zip (drop i before) (drop i now)) (zip before now) (zip_past before now i past) c.loop-place.invariant

@@ -5,6 +5,6 @@ use Rattle.pb_cmd_survive.proofs.report.put_lost.Given as goal
 
 abbrev pub invariant-loop-place : goal.invariant-loop-place
 invariant-loop-place l =
-    string_bytes l.out ++ flat_map (lost_text l.plan l.from (zip l.before l.now))
+    string_bytes l.out ++ flat_map (lost_text l.plan l.criteria (zip l.before l.now))
     (zip (drop l.place l.before) (drop l.place l.now))
-    ≡ string_bytes l.initial.out ++ flat_map (lost_text l.plan l.from (zip l.before l.now)) (zip l.before l.now)
+    ≡ string_bytes l.initial.out ++ flat_map (lost_text l.plan l.criteria (zip l.before l.now)) (zip l.before l.now)

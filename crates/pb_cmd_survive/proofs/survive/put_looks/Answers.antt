@@ -1,9 +1,10 @@
-use Rattle.std.proofs.Common.{◌≡◌, ◌++◌, string_bytes, count_by, refl, ap, subst, ◌∙◌}
+use Rattle.std.proofs.Common.{◌≡◌, ◌++◌, string_bytes, refl, ap, subst, ◌∙◌}
 use Rattle.pb_cmd_survive.specs.Failures.{all_failures}
 use Rattle.pb_cmd_survive.specs.Impacts.{IsImpact, AreImpacts}
-use Rattle.pb_cmd_survive.specs.Reports.{parts, report_text}
-use Rattle.pb_cmd_survive.specs.Scopes.{services_of, from_of}
-use Rattle.pb_cmd_survive.specs.Survivals.{most_events, status_of}
+use Rattle.pb_cmd_survive.specs.Reports.{report_text}
+use Rattle.pb_cmd_survive.specs.Scopes.{services_of}
+use Rattle.pb_cmd_survive.specs.Survivals.{most_events, status_of, criteria_of}
+use Rattle.pb_cmd_survive.specs.Verdicts.{survives}
 use Rattle.pb_cmd_survive.specs.declared.failure.Failure.TheVariants.{Nothing}
 use Rattle.pb_cmd_survive.proofs.survive.put_looks.Goals as goal
 
@@ -13,7 +14,7 @@ returns g c =
     let asked = c.args.asked.now in
     let base = c.in_ok-base.base in
     let impacts = c.in_ok-impacts.impacts.items in
-    let from = from_of plan asked.scope in
+    let criteria = criteria_of plan asked in
     let services : c.as_slice.result.now ≡ services_of plan asked.scope = c.as_slice.ensures.value
     ∙ c.in_ok-services.ensures in
     let services' : c.as_slice-2.result.now ≡ services_of plan asked.scope = c.as_slice-2.ensures.value
@@ -22,15 +23,15 @@ returns g c =
     ∙ c.in_ok-failures.ensures in
     let looked = subst (λ fs. AreImpacts plan c.as_slice-2.result.now asked.ticks most_events fs impacts) failures
     c.in_ok-impacts.ensures in
-    let text : string_bytes c.put_report.new.out ≡ string_bytes c.args.out.now ++ report_text plan from base impacts =
-    c.in_ok-parting.ensures.text
-    ∙ ap (λ f. string_bytes c.args.out.now ++ report_text plan f base c.as_slice-4.result.now)
-    c.from_of-from.ensures
-    ∙ ap (λ os. string_bytes c.args.out.now ++ report_text plan from base os) c.as_slice-4.ensures.value in
-    let parting : c.in_ok-parting.parting ≡ count_by (parts from base) impacts =
-    c.in_ok-parting.ensures.parting ∙ ap (λ f. count_by (parts f base) c.as_slice-4.result.now) c.from_of-from.ensures
-    ∙ ap (λ os. count_by (parts from base) os) c.as_slice-4.ensures.value in (
-      report_text plan from base impacts,
+    let text : string_bytes c.put_report.new.out ≡ string_bytes c.args.out.now
+    ++ report_text plan criteria base impacts = c.in_ok-survived.ensures.text
+    ∙ ap (λ k. string_bytes c.args.out.now ++ report_text plan k base c.as_slice-4.result.now)
+    c.criteria_of-criteria.ensures
+    ∙ ap (λ os. string_bytes c.args.out.now ++ report_text plan criteria base os) c.as_slice-4.ensures.value in
+    let survived : c.in_ok-survived.survived ≡ survives criteria base impacts =
+    c.in_ok-survived.ensures.survives ∙ ap (λ k. survives k base c.as_slice-4.result.now)
+    c.criteria_of-criteria.ensures ∙ ap (λ os. survives criteria base os) c.as_slice-4.ensures.value in (
+      report_text plan criteria base impacts,
       text,
       record {
         found = c.requires.found;
@@ -40,6 +41,6 @@ returns g c =
         are_impacts = subst (λ ns. AreImpacts plan ns asked.ticks most_events (all_failures plan asked.kinds)
             impacts) services' looked;
         text_is = refl;
-        status_is = c.status_of.ensures ∙ ap status_of parting;
+        status_is = c.status_of.ensures ∙ ap status_of survived;
       },
     )

@@ -91,7 +91,7 @@ pub(super) const LISTED: Draft = Draft {
 
 /// A ring of three with a forwarding loop for `red`: the plan gives all states.
 pub(super) const LOOPING: Draft = Draft {
-    network: "",
+    network: "spanning = \"fixed\"",
     bridges: 3,
     wires: &[
         Wire((1, 1), (2, 1), ""),
@@ -99,6 +99,34 @@ pub(super) const LOOPING: Draft = Draft {
         Wire((3, 2), (1, 2), ""),
     ],
     stubs: &[Stub((1, 3), "red"), Stub((2, 3), "red")],
+};
+
+/// Two bridges with three links between them: the plan gives all states, and two links form a forwarding loop.
+pub(super) const THREEFOLD: Draft = Draft {
+    network: "spanning = \"fixed\"",
+    bridges: 2,
+    wires: &[
+        Wire((1, 1), (2, 1), ""),
+        Wire((1, 2), (2, 2), ""),
+        Wire((1, 3), (2, 3), ""),
+    ],
+    stubs: &[Stub((1, 4), "red"), Stub((2, 4), "red")],
+};
+
+/// Two bridges without a link.
+pub(super) const APART: Draft = Draft {
+    network: RSTP,
+    bridges: 2,
+    wires: &[],
+    stubs: &[Stub((1, 3), "red"), Stub((2, 3), "red")],
+};
+
+/// Two bridges with two links between them, and one customer port.
+pub(super) const LONELY: Draft = Draft {
+    network: RSTP,
+    bridges: 2,
+    wires: &[Wire((1, 1), (2, 1), ""), Wire((1, 2), (2, 2), "")],
+    stubs: &[Stub((1, 3), "red")],
 };
 
 /// Figure 17-4 of IEEE 802.1D-2004, with a customer port of `red` at each bridge.

@@ -6,13 +6,17 @@
 pub(super) const RING: &str = "\
 nothing down: settled ticks 2 forest yes\n\
 \x20 service red: C1 C2 C3 C4 C5 C6\n\
-6 of 6 failures split nothing, ticks at most 4\n\
+healthy with nothing down\n\
+checked 6 links\n\
+6 of 6 failures disconnect nothing\n\
+converges within 4 ticks\n\
 survives every single failure\n";
 
 /// A ring: without two links two arcs remain.
 pub(super) const ARCS: &str = "\
 nothing down: settled ticks 2 forest yes\n\
 \x20 service red: C1 C2 C3 C4 C5 C6\n\
+healthy with nothing down\n\
 links L1 L2 down: settled ticks 3 forest yes\n\
 \x20 service red: C1 C3 C4 C5 C6 | C2\n\
 links L1 L3 down: settled ticks 2 forest yes\n\
@@ -43,13 +47,26 @@ links L4 L6 down: settled ticks 3 forest yes\n\
 \x20 service red: C1 C2 C3 C4 | C5 C6\n\
 links L5 L6 down: settled ticks 2 forest yes\n\
 \x20 service red: C1 C2 C3 C4 C5 | C6\n\
-6 of 21 failures split nothing, ticks at most 4\n\
-15 of 21 failures split a service\n";
+checked 6 links, 15 pairs\n\
+6 of 21 failures disconnect nothing\n\
+converges within 9 ticks\n\
+15 of 21 failures disconnect a service\n";
 
-/// A ring: a bridge that fails is alone, and the others stay connected.
-pub(super) const ALONE: &str = "\
+/// A ring: without a bridge the ports of the others stay connected.
+pub(super) const BRIDGES: &str = "\
 nothing down: settled ticks 2 forest yes\n\
 \x20 service red: C1 C2 C3 C4 C5 C6\n\
+healthy with nothing down\n\
+checked 6 links, 6 bridges\n\
+12 of 12 failures disconnect nothing\n\
+converges within 4 ticks\n\
+survives every single failure\n";
+
+/// A ring, with the ports of a failed bridge: each is alone.
+pub(super) const OWN: &str = "\
+nothing down: settled ticks 2 forest yes\n\
+\x20 service red: C1 C2 C3 C4 C5 C6\n\
+healthy with nothing down\n\
 bridge B1 down: settled ticks 4 forest yes\n\
 \x20 service red: C1 | C2 C3 C4 C5 C6\n\
 bridge B2 down: settled ticks 3 forest yes\n\
@@ -62,116 +79,214 @@ bridge B5 down: settled ticks 2 forest yes\n\
 \x20 service red: C1 C2 C3 C4 C6 | C5\n\
 bridge B6 down: settled ticks 2 forest yes\n\
 \x20 service red: C1 C2 C3 C4 C5 | C6\n\
-6 of 12 failures split nothing, ticks at most 4\n\
-6 of 12 failures split a service\n";
+checked 6 links, 6 bridges\n\
+6 of 12 failures disconnect nothing\n\
+converges within 4 ticks\n\
+6 of 12 failures disconnect a service\n";
 
-/// Two ports of one bridge: they are disconnected if it fails.
+/// A line: without the middle bridge the ports of the outer ones are disconnected. The groups show its own ports too.
 pub(super) const SHARED: &str = "\
 nothing down: settled ticks 2 forest yes\n\
 \x20 service red: C1 C2 C3 C4\n\
+healthy with nothing down\n\
 link L1 down: settled ticks 3 forest yes\n\
 \x20 service red: C1 C3 C4 | C2\n\
 link L2 down: settled ticks 2 forest yes\n\
 \x20 service red: C1 C2 C3 | C4\n\
-bridge B1 down: settled ticks 3 forest yes\n\
-\x20 service red: C1 C3 C4 | C2\n\
 bridge B2 down: settled ticks 2 forest yes\n\
 \x20 service red: C1 | C2 | C3 | C4\n\
-bridge B3 down: settled ticks 2 forest yes\n\
-\x20 service red: C1 C2 C3 | C4\n\
-5 of 5 failures split a service\n";
+checked 2 links, 3 bridges\n\
+2 of 5 failures disconnect nothing\n\
+converges within 3 ticks\n\
+3 of 5 failures disconnect a service\n";
+
+/// The same line from a port at the middle bridge, whose own failure does not count.
+pub(super) const FROM_SHARED: &str = "\
+nothing down: settled ticks 2 forest yes\n\
+\x20 service red: C1 C2 C3 C4\n\
+healthy with nothing down\n\
+link L1 down: settled ticks 3 forest yes\n\
+\x20 C1 cut off from: C2\n\
+link L2 down: settled ticks 2 forest yes\n\
+\x20 C1 cut off from: C4\n\
+checked 2 links, 3 bridges\n\
+3 of 5 failures disconnect nothing\n\
+converges within 3 ticks\n\
+2 of 5 failures disconnect a service\n";
 
 /// A line: each link disconnects it.
 pub(super) const LINE: &str = "\
 nothing down: settled ticks 2 forest yes\n\
 \x20 service red: C1 C2 C3 C4\n\
+healthy with nothing down\n\
 link L1 down: settled ticks 4 forest yes\n\
 \x20 service red: C1 | C2 C3 C4\n\
 link L2 down: settled ticks 2 forest yes\n\
 \x20 service red: C1 C2 | C3 C4\n\
 link L3 down: settled ticks 2 forest yes\n\
 \x20 service red: C1 C2 C3 | C4\n\
-3 of 3 failures split a service\n";
+checked 3 links\n\
+converges within 4 ticks\n\
+3 of 3 failures disconnect a service\n";
 
 /// A line, from its second port.
 pub(super) const FROM: &str = "\
 nothing down: settled ticks 2 forest yes\n\
 \x20 service red: C1 C2 C3 C4\n\
+healthy with nothing down\n\
 link L1 down: settled ticks 4 forest yes\n\
 \x20 C2 cut off from: C1\n\
 link L2 down: settled ticks 2 forest yes\n\
 \x20 C2 cut off from: C3 C4\n\
 link L3 down: settled ticks 2 forest yes\n\
 \x20 C2 cut off from: C4\n\
-3 of 3 failures split a service\n";
+checked 3 links\n\
+converges within 4 ticks\n\
+3 of 3 failures disconnect a service\n";
 
 /// Two links: one is enough.
 pub(super) const PARALLEL: &str = "\
 nothing down: settled ticks 2 forest yes\n\
 \x20 service red: C1 C2\n\
-2 of 2 failures split nothing, ticks at most 2\n\
+healthy with nothing down\n\
+checked 2 links\n\
+2 of 2 failures disconnect nothing\n\
+converges within 2 ticks\n\
 survives every single failure\n";
 
 /// Two links: without both the bridges are disconnected.
 pub(super) const BOTH: &str = "\
 nothing down: settled ticks 2 forest yes\n\
 \x20 service red: C1 C2\n\
+healthy with nothing down\n\
 links L1 L2 down: settled ticks 2 forest yes\n\
 \x20 service red: C1 | C2\n\
-2 of 3 failures split nothing, ticks at most 2\n\
-1 of 3 failures split a service\n";
+checked 2 links, 1 pairs\n\
+2 of 3 failures disconnect nothing\n\
+converges within 2 ticks\n\
+1 of 3 failures disconnect a service\n";
 
 /// A star: each link cuts off the port at its far end.
 pub(super) const STAR: &str = "\
 nothing down: states given forest yes\n\
 \x20 service red: C1 C2 C3\n\
+healthy with nothing down\n\
 link L1 down: states given forest yes\n\
 \x20 service red: C1 | C2 C3\n\
 link L2 down: states given forest yes\n\
 \x20 service red: C1 C3 | C2\n\
 link L3 down: states given forest yes\n\
 \x20 service red: C1 C2 | C3\n\
-3 of 3 failures split a service\n";
+checked 3 links\n\
+3 of 3 failures disconnect a service\n";
 
-/// A ring with a forwarding loop: without any one link it is a forest.
+/// A ring with a forwarding loop: without any one link it is a forest, but it is not healthy.
 pub(super) const LOOPING: &str = "\
 nothing down: states given forest no\n\
 \x20 loop red\n\
 \x20 service red: C1 C2\n\
-3 of 3 failures split nothing, ticks at most 0\n\
-survives every single failure\n";
+service red has a forwarding loop\n\
+not healthy with nothing down: 1 services\n\
+checked 3 links\n\
+3 of 3 failures disconnect nothing\n\
+not healthy with nothing down: 1 services\n";
+
+/// A ring with two loops: without one link a loop may remain.
+pub(super) const TWO_LOOPS: &str = "\
+nothing down: states given forest no\n\
+\x20 loop red\n\
+\x20 service red: C1 C2\n\
+service red has a forwarding loop\n\
+not healthy with nothing down: 1 services\n\
+link L1 down: states given forest no\n\
+\x20 loop red\n\
+link L2 down: states given forest no\n\
+\x20 loop red\n\
+link L3 down: states given forest no\n\
+\x20 loop red\n\
+checked 3 links\n\
+3 of 3 failures disconnect nothing\n\
+3 of 3 failures form a forwarding loop\n\
+not healthy with nothing down: 1 services\n";
+
+/// Two bridges without a link: the service is disconnected with nothing down.
+pub(super) const CUT: &str = "\
+nothing down: settled ticks 2 forest yes\n\
+\x20 service red: C1 | C2\n\
+\x20 service blue:\n\
+service red is disconnected\n\
+service blue has fewer than two ports\n\
+not healthy with nothing down: 2 services\n\
+checked 0 links\n\
+not healthy with nothing down: 2 services\n";
+
+/// One service with one port.
+pub(super) const ONE_PORT: &str = "\
+nothing down: settled ticks 2 forest yes\n\
+\x20 service red: C1\n\
+service red has fewer than two ports\n\
+not healthy with nothing down: 1 services\n\
+checked 2 links\n\
+2 of 2 failures disconnect nothing\n\
+converges within 2 ticks\n\
+not healthy with nothing down: 1 services\n";
 
 /// A ring with a link for one service: the other service has only a line.
 pub(super) const LISTED: &str = "\
 nothing down: settled ticks 2 forest yes\n\
 \x20 service red: C1 C2\n\
 \x20 service blue: C3 C4\n\
+healthy with nothing down\n\
 link L1 down: settled ticks 2 forest yes\n\
 \x20 service blue: C3 | C4\n\
-2 of 3 failures split nothing, ticks at most 2\n\
-1 of 3 failures split a service\n";
+checked 3 links\n\
+2 of 3 failures disconnect nothing\n\
+converges within 2 ticks\n\
+1 of 3 failures disconnect a service\n";
 
 /// The standard's network: each link is redundant.
 pub(super) const FIGURE: &str = "\
 nothing down: settled ticks 2 forest yes\n\
 \x20 service red: C1 C2 C3 C4 C5 C6 C7 C8\n\
-14 of 14 failures split nothing, ticks at most 2\n\
+healthy with nothing down\n\
+checked 14 links\n\
+14 of 14 failures disconnect nothing\n\
+converges within 2 ticks\n\
 survives every single failure\n";
 
 /// A ring whose bridges tick at most twice.
 pub(super) const UNSETTLED: &str = "\
 nothing down: settled ticks 2 forest yes\n\
 \x20 service red: C1 C2 C3 C4 C5 C6\n\
+healthy with nothing down\n\
 link L1 down: not settled ticks 2 forest yes\n\
 \x20 service red: C1 C4 C5 C6 | C2 | C3\n\
 link L2 down: not settled ticks 2 forest yes\n\
 \x20 service red: C1 C2 C4 C5 C6 | C3\n\
 link L6 down: not settled ticks 2 forest yes\n\
 \x20 service red: C1 C2 C3 C4 | C5 | C6\n\
-3 of 6 failures split nothing, ticks at most 2\n\
-3 of 6 failures split a service\n";
+checked 6 links\n\
+3 of 6 failures disconnect nothing\n\
+converges within 2 ticks\n\
+3 of 6 failures disconnect a service\n\
+3 of 6 failures do not converge\n";
+
+/// A ring whose bridges tick once, and do not converge with nothing down either.
+pub(super) const UNREADY: &str = "\
+nothing down: not settled ticks 1 forest yes\n\
+\x20 service red: C1 C2\n\
+bridges do not converge\n\
+not healthy with nothing down: 0 services, bridges do not converge\n\
+link L1 down: not settled ticks 1 forest yes\n\
+link L2 down: not settled ticks 1 forest yes\n\
+checked 2 links\n\
+2 of 2 failures disconnect nothing\n\
+2 of 2 failures do not converge\n\
+not healthy with nothing down: 0 services, bridges do not converge\n";
 
 /// An empty plan.
 pub(super) const EMPTY: &str = "\
 nothing down: states given forest yes\n\
-survives every single failure\n";
+not healthy with nothing down: no service\n\
+checked 0 links\n\
+not healthy with nothing down: no service\n";

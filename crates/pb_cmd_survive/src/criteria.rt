@@ -1,0 +1,10 @@
+//! What counts as disconnected.
+
+/// The customer ports whose disconnection counts.
+#[derive(Clone, Copy, PartialEq, Eq, Debug)]
+pub struct Criteria {
+    /// The number of the only customer port from which others count, or `None` for all.
+    pub from: Option<u8>,
+    /// Whether the customer ports of a failed bridge count too.
+    pub own: bool,
+}

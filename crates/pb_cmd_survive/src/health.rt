@@ -1,0 +1,138 @@
+//! The lines about the network's health with nothing down.
+
+ghost use Rattle.std.specs.Prelude.{◌≡◌, ◌++◌, flat_map, not, count_by, string_bytes, OnOk};
+ghost use Rattle.pb_cmd_survive.specs.Reports.{about_line, split_line, loop_reason_line, few_line, reasons_text};
+ghost use Rattle.pb_cmd_survive.specs.Reports.{unsettled_text, unhealthy_text, unhealthy_line};
+ghost use Rattle.pb_cmd_survive.specs.Reports.{health_line, health_text};
+ghost use Rattle.pb_cmd_survive.specs.Verdicts.{is_healthy_service};
+
+use crate::impact::Impact;
+use crate::verdict::{is_healthy, is_healthy_service, is_settled, is_split};
+use crate::view::View;
+use pb_frame::Memory;
+use pb_lan::Plan;
+use pb_names::service_name;
+
+/// Appends a line about a service.
+fn put_about(out: &mut String, plan: &Plan, view: &View, what: &str) -> Result<(), Memory>
+    ensures { OnOk result (string_bytes out.new ≡ string_bytes out.old ++ about_line plan.now view.now what.now) }
+{
+    out.push_str("service ")?;
+    out.push_str(service_name(plan, view.service))?;
+    out.push_str(what)?;
+    out.push_str("\n")?;
+    Ok(())
+}
+
+/// Appends that a service is disconnected, if it is.
+fn put_split(out: &mut String, plan: &Plan, view: &View) -> Result<(), Memory>
+    ensures { OnOk result (string_bytes out.new ≡ string_bytes out.old ++ split_line plan.now view.now) }
+{
+    if is_split(view.sites.as_slice()) {
+        put_about(out, plan, view, " is disconnected")?;
+    }
+    Ok(())
+}
+
+/// Appends that a service has a forwarding loop, if it has.
+fn put_loop_reason(out: &mut String, plan: &Plan, view: &View) -> Result<(), Memory>
+    ensures { OnOk result (string_bytes out.new ≡ string_bytes out.old ++ loop_reason_line plan.now view.now) }
+{
+    if !view.is_forest {
+        put_about(out, plan, view, " has a forwarding loop")?;
+    }
+    Ok(())
+}
+
+/// Appends that a service has fewer than two ports, if it has.
+fn put_few(out: &mut String, plan: &Plan, view: &View) -> Result<(), Memory>
+    ensures { OnOk result (string_bytes out.new ≡ string_bytes out.old ++ few_line plan.now view.now) }
+{
+    if 1 < view.sites.as_slice().len() {
+        return Ok(());
+    }
+    put_about(out, plan, view, " has fewer than two ports")
+}
+
+/// Appends a line for each reason why a service is not healthy.
+fn put_reasons(out: &mut String, plan: &Plan, view: &View) -> Result<(), Memory>
+    ensures { OnOk result (string_bytes out.new ≡ string_bytes out.old ++ reasons_text plan.now view.now) }
+{
+    put_split(out, plan, view)?;
+    put_loop_reason(out, plan, view)?;
+    put_few(out, plan, view)
+}
+
+/// Returns how many services are not healthy.
+fn count_unhealthy(views: &[View]) -> usize
+    ensures { result ≡ count_by (λ v. not (is_healthy_service v)) views.now }
+{
+    views
+        .iter()
+        .filter(|view| !is_healthy_service(view))
+        .count()
+}
+
+/// Appends how many services are not healthy.
+fn put_services(out: &mut String, views: &[View]) -> Result<(), Memory>
+    ensures { OnOk result (string_bytes out.new ≡ string_bytes out.old ++ unhealthy_text views.now) }
+{
+    if views.is_empty() {
+        out.push_str("no service")?;
+        return Ok(());
+    }
+    write!(out, "{} services", count_unhealthy(views))?;
+    Ok(())
+}
+
+/// Appends a text, if the bridges do not converge.
+fn put_unsettled(out: &mut String, base: &Impact, what: &str) -> Result<(), Memory>
+    ensures { OnOk result (string_bytes out.new ≡ string_bytes out.old ++ unsettled_text base.now what.now) }
+{
+    if !is_settled(base.rest) {
+        out.push_str(what)?;
+    }
+    Ok(())
+}
+
+/// Appends the summary of a network that is not healthy.
+pub(crate) fn put_unhealthy(out: &mut String, base: &Impact) -> Result<(), Memory>
+    ensures { OnOk result (string_bytes out.new ≡ string_bytes out.old ++ unhealthy_line base.now) }
+{
+    out.push_str("not healthy with nothing down: ")?;
+    put_services(out, base.views.as_slice())?;
+    put_unsettled(out, base, ", bridges do not converge")?;
+    out.push_str("\n")?;
+    Ok(())
+}
+
+/// Appends that the network is healthy, or the summary.
+fn put_health_line(out: &mut String, base: &Impact) -> Result<(), Memory>
+    ensures { OnOk result (string_bytes out.new ≡ string_bytes out.old ++ health_line base.now) }
+{
+    if is_healthy(base) {
+        out.push_str("healthy with nothing down\n")?;
+        return Ok(());
+    }
+    put_unhealthy(out, base)
+}
+
+/// Appends the reasons why services are not healthy.
+fn put_all_reasons(out: &mut String, plan: &Plan, views: &[View]) -> Result<(), Memory>
+    ensures { OnOk result (string_bytes out.new ≡ string_bytes out.old
+        ++ flat_map (reasons_text plan.now) views.now) }
+{
+    for view in views {
+        put_reasons(out, plan, view)?;
+    }
+    Ok(())
+}
+
+/// Appends the lines of the network's health with nothing down: each reason why it is not healthy, and the summary.
+pub(crate) fn put_health(out: &mut String, plan: &Plan, base: &Impact) -> Result<(), Memory>
+    ensures { OnOk result (string_bytes out.new ≡ string_bytes out.old ++ health_text plan.now base.now) }
+{
+    put_unsettled(out, base, "bridges do not converge\n")?;
+    put_all_reasons(out, plan, base.views.as_slice())?;
+    put_health_line(out, base)
+}

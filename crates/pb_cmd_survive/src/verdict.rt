@@ -1,0 +1,91 @@
+//! Whether a network is healthy with nothing down, and whether it survives failures.
+
+ghost use Rattle.std.specs.Prelude.{◌≡◌, ◌==◌, ◌&&◌, not, length, nat_lt};
+ghost use Rattle.std.specs.List.{list_any, list_all};
+ghost use Rattle.pb_cmd_survive.specs.Verdicts.{is_settled, are_forests, is_apart, is_split, is_healthy_service, is_healthy};
+ghost use Rattle.pb_cmd_survive.specs.Verdicts.{is_quiet, survives};
+
+use crate::criteria::Criteria;
+use crate::impact::Impact;
+use crate::parting::parts;
+use crate::sites::Site;
+use crate::view::View;
+use pb_converge::Rest;
+
+/// Checks whether the bridges converged, or had nothing to decide.
+pub(crate) fn is_settled(rest: Rest) -> bool
+    ensures { result ≡ is_settled rest }
+{
+    match rest {
+        Rest::Given | Rest::Settled(_) => true,
+        Rest::Unsettled(_) => false,
+    }
+}
+
+/// Checks whether the active links of each service are a forest.
+pub(crate) fn are_forests(views: &[View]) -> bool
+    ensures { result ≡ are_forests views.now }
+{
+    views.iter().all(|view| view.is_forest)
+}
+
+/// Checks whether one of the ports is in another group than this one.
+fn is_apart(sites: &[Site], one: Site) -> bool
+    ensures { result ≡ is_apart sites.now one }
+{
+    sites.iter().any(|other| one.group != other.group)
+}
+
+/// Checks whether two of the ports are in different groups.
+pub(crate) fn is_split(sites: &[Site]) -> bool
+    ensures { result ≡ is_split sites.now }
+{
+    sites.iter().any(|one| is_apart(sites, *one))
+}
+
+/// Checks whether a service has no forwarding loop and two ports or more, all in one group.
+pub(crate) fn is_healthy_service(view: &View) -> bool
+    ensures { result ≡ is_healthy_service view.now }
+{
+    view.is_forest && 1 < view.sites.as_slice().len() && !is_split(view.sites.as_slice())
+}
+
+/// Checks whether each service is healthy.
+fn are_healthy(views: &[View]) -> bool
+    ensures { result ≡ list_all is_healthy_service views.now }
+{
+    views.iter().all(|view| is_healthy_service(view))
+}
+
+/// Checks whether the bridges converge, and at least one service is analysed, and each is healthy.
+pub(crate) fn is_healthy(base: &Impact) -> bool
+    ensures { result ≡ is_healthy base.now }
+{
+    let views = base.views.as_slice();
+    is_settled(base.rest) && 0 < views.len() && are_healthy(views)
+}
+
+/// Checks whether a failure is harmless: the bridges converge, no service has a loop, and none is disconnected.
+pub(crate) fn is_quiet(criteria: Criteria, base: &Impact, impact: &Impact) -> bool
+    ensures { result ≡ is_quiet criteria base.now impact.now }
+{
+    is_settled(impact.rest)
+        && are_forests(impact.views.as_slice())
+        && !parts(criteria, base, impact)
+}
+
+/// Checks whether each failure is harmless.
+fn are_quiet(criteria: Criteria, base: &Impact, impacts: &[Impact]) -> bool
+    ensures { result ≡ list_all (is_quiet criteria base.now) impacts.now }
+{
+    impacts
+        .iter()
+        .all(|impact| is_quiet(criteria, base, impact))
+}
+
+/// Checks whether the network is healthy with nothing down, and each failure is harmless.
+pub(crate) fn survives(criteria: Criteria, base: &Impact, impacts: &[Impact]) -> bool
+    ensures { result ≡ survives criteria base.now impacts.now }
+{
+    is_healthy(base) && are_quiet(criteria, base, impacts)
+}
