@@ -1,5 +1,5 @@
 -- The plan of a network with one bridge.
-use Rattle.std.specs.Prelude.{ℕ, zero, suc, ◌+◌, List, [], ◌∷◌, ◌++◌}
+use Rattle.std.specs.Prelude.{ℕ, zero, suc, ◌+◌, false, List, [], ◌∷◌, ◌++◌}
 use Rattle.pb_frame.specs.declared.mac.Mac.{Mac}
 use Rattle.pb_lan.specs.Plans.{default_ageing}
 use Rattle.pb_lan.specs.declared.plan.Plan.{Plan}
