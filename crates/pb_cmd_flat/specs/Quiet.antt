@@ -1,10 +1,12 @@
 -- A single bridge, between two frames and while it handles one.
-use Rattle.std.specs.Prelude.{◌≡◌, ℕ, ◌+◌, ◌*◌, ◌<◌, ◌≤◌, false, List, ◌++◌, None, length, nat_lt, if◌then◌else◌}
-use Rattle.std.specs.List.{AllByRecursion}
+use Rattle.std.specs.Prelude.{◌≡◌, ℕ, ◌+◌, ◌*◌, ◌<◌, ◌≤◌, ◌==◌, true, false, List, [], ◌++◌, None, length}
+use Rattle.std.specs.List.{AllByRecursion, list_any}
 use Rattle.pb_frame.specs.Hex.{IsHex}
+use Rattle.pb_lan.specs.Ports.{port_at, is_used}
 use Rattle.pb_lan.specs.Queues.{waiting}
 use Rattle.pb_lan.specs.declared.step.Item.{Item}
 use Rattle.pb_lan.specs.declared.step.Outcome.{Outcome}
+use Rattle.pb_lan.specs.declared.step.Outcome.TheVariants.{Relayed, Filtered, Heard}
 use Rattle.pb_lan.specs.declared.step.Step.{Step}
 use Rattle.pb_lan.specs.declared.step.Step.TheVariants.{Receive, Transmit}
 use Rattle.pb_relay.specs.Standing.{BridgeView, HasReceived, with_step}
@@ -48,24 +50,35 @@ Tells (Receive port item learnt outcome moved) out out' =
     (out' ≡ out ++ answer_text (record { port = port; wire = item.wire; outcome = outcome })) × IsClear (Receive port item learnt outcome moved)
 Tells _ out out' = ⊥
 
--- after a frame was received: at most one copy waits at each port, and none at the port at which it entered
-pub record IsWaiting (ports port : ℕ) (bridge : BridgeView) : Type 0 where
+-- the ports to which a frame was relayed
+abbrev pub exits_by : Outcome → List ℕ
+exits_by (Relayed chosen refused) = chosen
+exits_by (Filtered reason) = []
+exits_by Heard = []
+
+-- the ports to which the step relayed a frame
+abbrev pub exits_of : Step → List ℕ
+exits_of (Receive port item learnt outcome moved) = exits_by outcome
+exits_of _ = []
+
+-- the bridge has these ports
+abbrev pub AreUsed : BridgeView → List ℕ → Type 0
+AreUsed bridge exits = AllByRecursion (λ port. is_used (port_at bridge.plan bridge.number port) ≡ true) exits
+
+-- copies wait only at these ports, at most one at each, and the bridge can count the steps that send them
+pub record IsWaiting (ports : ℕ) (exits : List ℕ) (bridge : BridgeView) : Type 0 where
   pub alone : IsAlone ports bridge
   pub near : (n : ℕ) → 1 ≤ n → n ≤ ports → waits bridge n ≤ 1
-  pub own : waits bridge port ≡ 0
-  pub few : length bridge.steps + 15 ≤ 16 * length (receipts bridge.steps)
+  pub only : (n : ℕ) → 1 ≤ n → n ≤ ports → list_any (λ exit. exit == n) exits ≡ false → waits bridge n ≡ 0
+  pub few : length bridge.steps + length exits ≤ 16 * length (receipts bridge.steps)
 
 -- the port sent the item that waited there, if one did
 pub data HasDrained (port : ℕ) (old new : BridgeView) : Type 0 where
   nothing : waits old port ≡ 0 → new ≡ old → HasDrained port old new
   one : (item : Item) → 0 < waits old port → new ≡ with_step old (Transmit port item) → HasDrained port old new
 
--- the ports before this one have sent the items that waited there
-pub record IsDraining (ports port next : ℕ) (old new : BridgeView) : Type 0 where
-  pub alone : IsAlone ports new
+-- all ports but these have sent the items that waited there
+pub record IsDraining (ports : ℕ) (exits : List ℕ) (old new : BridgeView) : Type 0 where
+  pub waiting : IsWaiting ports exits new
   pub same : receipts new.steps ≡ receipts old.steps
   pub clear : AllByRecursion IsClear old.steps → AllByRecursion IsClear new.steps
-  pub done : (n : ℕ) → 1 ≤ n → n < next → n ≤ ports → waits new n ≡ 0
-  pub left : (n : ℕ) → 1 ≤ n → n ≤ ports → waits new n ≤ 1
-  pub own : waits new port ≡ 0
-  pub few : length new.steps + 16 + (if nat_lt port next then 1 else 0) ≤ 16 * length (receipts new.steps) + next

@@ -1,8 +1,10 @@
 //! The printed lines.
 
-ghost use Rattle.std.specs.Prelude.{◌≡◌, ◌++◌, string_bytes, true, IfOk, OnOk};
+ghost use Rattle.std.specs.Fmt.{decimal};
+ghost use Rattle.std.specs.Prelude.{◌≡◌, ◌++◌, string_bytes, codes, true, IfOk, OnOk};
 ghost use Rattle.pb_frame.specs.Hex.{hex_text, IsHex};
 ghost use Rattle.pb_frame.specs.Tags.{bare};
+ghost use Rattle.pb_cmd_flat.specs.Quiet.{exits_by};
 ghost use Rattle.pb_cmd_flat.specs.Texts.{answer_text, filtered_line, out_line, out_lines};
 ghost use Rattle.pb_messages.specs.BadLines.{bad_line};
 
@@ -16,7 +18,7 @@ use std::alloc::Global;
 ///
 /// A relayed frame has one line for each chosen port, with the frame as it leaves there, without its priority tag. A
 /// filtered frame has one line with the reason. A frame that the bridge itself heard has no line. If the frame leaves
-/// unchanged, `digits` are printed as they were read.
+/// unchanged, `digits` are printed as they were read. `exits` are the ports to which it was relayed.
 ///
 /// # Errors
 ///
@@ -27,19 +29,21 @@ pub(crate) fn put_answer(
     port: u8,
     wire: &[u8],
     digits: &[u8],
+    exits: &[u8],
     outcome: &Outcome,
 ) -> Result<(), Memory>
-    requires { IsHex digits.now wire.now }
+    requires digits { IsHex digits.now wire.now }
+    requires exits { exits.now ≡ exits_by outcome.now }
     ensures { OnOk result (out.new.items ≡ out.old.items
         ++ answer_text (record { port = port; wire = wire.now; outcome = outcome.now })) }
 {
     match outcome {
-        Outcome::Relayed { chosen, .. } if is_as_printed(wire, digits) => {
-            put_out_lines(out, digits, chosen.list().as_slice())
+        Outcome::Relayed { .. } if is_as_printed(wire, digits) => {
+            put_out_lines(out, digits, exits)
         }
-        Outcome::Relayed { chosen, .. } => {
+        Outcome::Relayed { .. } => {
             let hex = bare_hex(alloc, wire)?;
-            put_out_lines(out, hex.as_bytes(), chosen.list().as_slice())
+            put_out_lines(out, hex.as_bytes(), exits)
         }
         Outcome::Filtered(reason) => put_filtered(alloc, out, port, *reason),
         Outcome::Heard => Ok(()),
@@ -93,14 +97,26 @@ fn put_out_lines(out: &mut Vec<u8>, hex: &[u8], ports: &[u8]) -> Result<(), Memo
     Ok(())
 }
 
-/// Appends the line of a frame that left at a port.
-fn put_out(out: &mut Vec<u8>, hex: &[u8], port: u8) -> Result<(), Memory>
-    ensures { OnOk result (out.new.items ≡ out.old.items ++ out_line hex.now port) }
+/// Appends the beginning of the line of a frame that left at a port.
+fn put_exit(out: &mut Vec<u8>, port: u8) -> Result<(), Memory>
+    ensures { OnOk result (out.new.items ≡ out.old.items ++ codes "out " ++ decimal port ++ codes " ") }
 {
+    if port < 10 {
+        out.extend_from_slice(&[b'o', b'u', b't', b' ', b'0' + port, b' '])?;
+        return Ok(());
+    }
     let mut number = Buffer::new();
     out.extend_from_slice(b"out ")?;
     out.extend_from_slice(number.format(port).as_bytes())?;
     out.push(b' ')?;
+    Ok(())
+}
+
+/// Appends the line of a frame that left at a port.
+fn put_out(out: &mut Vec<u8>, hex: &[u8], port: u8) -> Result<(), Memory>
+    ensures { OnOk result (out.new.items ≡ out.old.items ++ out_line hex.now port) }
+{
+    put_exit(out, port)?;
     out.extend_from_slice(hex)?;
     out.push(b'\n')?;
     Ok(())

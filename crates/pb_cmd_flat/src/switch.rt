@@ -1,6 +1,6 @@
 //! A single bridge.
 
-ghost use Rattle.std.specs.Prelude.{◌≡◌, ◌≤◌, ◌<◌, ◌+◌, ◌-◌, ◌^◌, ◌⊎◌, [], true, false, length, IfErr, OnOk, IsErrOf};
+ghost use Rattle.std.specs.Prelude.{◌≡◌, ◌≤◌, ◌<◌, ◌-◌, ◌^◌, ◌⊎◌, ℕ, [], true, false, length, IfErr, OnOk, IsErrOf};
 ghost use Rattle.std.specs.Prelude.{IfOk};
 ghost use Rattle.pb_frame.specs.Hex.{IsHex};
 ghost use Rattle.pb_lan.specs.BridgeLists.{IsLawfulBridge};
@@ -9,7 +9,8 @@ ghost use Rattle.pb_relay.specs.Protocol.{spanning_tree};
 ghost use Rattle.pb_cmd_flat.specs.Faults.{of_bridge};
 ghost use Rattle.pb_cmd_flat.specs.FlatPlans.{flat_plan};
 ghost use Rattle.pb_relay.specs.Standing.{HasCounted};
-ghost use Rattle.pb_cmd_flat.specs.Quiet.{IsToldBy, IsWaiting, IsDraining, HasDrained, Tells, arriving, waits};
+ghost use Rattle.pb_cmd_flat.specs.Quiet.{IsToldBy, AreUsed, IsWaiting, IsDraining, HasDrained, Tells};
+ghost use Rattle.pb_cmd_flat.specs.Quiet.{arriving, exits_of, waits};
 ghost use Rattle.pb_cmd_flat.specs.Receipts.{receipts, IsClearOutcome};
 ghost use Rattle.pb_cmd_flat.specs.Switches.{HasHandled};
 
@@ -17,7 +18,7 @@ use crate::flat_plan::flat_plan;
 use crate::print::put_answer;
 use bytes::Bytes;
 use pb_frame::{Learnt, Memory};
-use pb_lan::{Item, Outcome, Reason, Step};
+use pb_lan::{Item, Outcome, PortList, Reason, Step};
 use pb_messages::CommandFault;
 use pb_relay::{Bridge, BridgeFault};
 use std::alloc::Global;
@@ -89,13 +90,33 @@ fn is_lost(outcome: &Outcome) -> bool
     }
 }
 
-/// Appends the lines for the frame that a step received.
+/// Returns the ports to which a step relayed a frame.
+fn exits_of(step: &Step) -> PortList
+    ensures { result ≡ exits_of step.now }
+{
+    match step {
+        Step::Receive {
+            outcome: Outcome::Relayed { chosen, .. },
+            ..
+        } => chosen.list(),
+        _ => PortList::new(),
+    }
+}
+
+/// Appends the lines for the frame that a step received. `exits` are the ports to which it was relayed.
 ///
 /// # Errors
 ///
 /// `Memory` if an allocation failed, also one of the bridge for a source, the frame or a copy.
-fn tell(alloc: Global, step: &Step, digits: &[u8], out: &mut Vec<u8>) -> Result<(), CommandFault>
-    requires { IsToldBy digits.now step.now }
+fn tell(
+    alloc: Global,
+    step: &Step,
+    exits: &[u8],
+    digits: &[u8],
+    out: &mut Vec<u8>,
+) -> Result<(), CommandFault>
+    requires exits { exits.now ≡ exits_of step.now }
+    requires digits { IsToldBy digits.now step.now }
     ensures ok { OnOk result (Tells step.now out.old.items out.new.items) }
     ensures err { IfErr result (λ e. e ≡ CommandFault.Memory) }
 {
@@ -112,7 +133,15 @@ fn tell(alloc: Global, step: &Step, digits: &[u8], out: &mut Vec<u8>) -> Result<
     if *learnt == Some(Learnt::Memory) || is_lost(outcome) {
         return Err(CommandFault::Memory);
     }
-    put_answer(alloc, out, *port, item.wire.as_slice(), digits, outcome)?;
+    put_answer(
+        alloc,
+        out,
+        *port,
+        item.wire.as_slice(),
+        digits,
+        exits,
+        outcome,
+    )?;
     Ok(())
 }
 
@@ -138,23 +167,22 @@ fn drain_at(bridge: &mut Bridge, port: u8) -> Result<(), CommandFault>
     Ok(())
 }
 
-/// Has each port send the item that waits there. No item waits at the port at which the frame entered.
+/// Has each of these ports send the item that waits there.
 ///
 /// # Errors
 ///
 /// `Steps` if the bridge has reached its limit of steps, `Memory` if an allocation failed.
-fn drain(bridge: &mut Bridge, ports: u8, port: u8) -> Result<(), CommandFault>
-    requires most { ports ≤ 16 }
-    requires from { 1 ≤ port }
-    requires to { port ≤ ports }
-    requires waiting { IsWaiting ports port bridge.old }
-    ensures ok { OnOk result (IsDraining ports port (ports + 1) bridge.old bridge.new) }
+fn drain(bridge: &mut Bridge, exits: &[u8]) -> Result<(), CommandFault>
+    requires { AreUsed bridge.old exits.now }
+    ensures ok { OnOk result ((ports : ℕ) → IsWaiting ports exits.now bridge.old
+        → IsDraining ports [] bridge.old bridge.new) }
     ensures kinds { IfErr result (λ e. (e ≡ CommandFault.Steps) ⊎ (e ≡ CommandFault.Memory)) }
     ensures lawful { OnOk result (IsLawfulBridge spanning_tree bridge.new.plan bridge.new.number bridge.new.steps) }
-    ensures steps { IsErrOf result CommandFault.Steps → 2 ^ 60 ≤ length (receipts bridge.old.steps) }
+    ensures steps { IsErrOf result CommandFault.Steps → (ports : ℕ) → IsWaiting ports exits.now bridge.old
+        → 2 ^ 60 ≤ length (receipts bridge.old.steps) }
 {
-    for other in 1..ports + 1 {
-        drain_at(bridge, other)?;
+    for exit in exits {
+        drain_at(bridge, *exit)?;
     }
     let _steps = bridge.steps();
     Ok(())
@@ -211,8 +239,9 @@ impl Switch {
     {
         self.is_ready = false;
         let step = admit(&mut self.bridge, port, frame)?;
-        tell(alloc, &step, digits, out)?;
-        drain(&mut self.bridge, self.ports, port)?;
+        let exits = exits_of(&step);
+        tell(alloc, &step, exits.as_slice(), digits, out)?;
+        drain(&mut self.bridge, exits.as_slice())?;
         self.is_ready = true;
         Ok(())
     }
