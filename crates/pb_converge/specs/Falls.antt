@@ -1,11 +1,12 @@
--- The ends of links that texts name, and that are disabled.
-use Rattle.std.specs.Prelude.{◌≡◌, ◌⊎◌, ℕ, false, List, [], ◌∷◌, ◌++◌, Some, None, Option, slice_get, string_bytes, codes}
+-- The ends of links that names disable.
+use Rattle.std.specs.Prelude.{◌≡◌, ◌||◌, ℕ, Bool, true, false, List, [], ◌∷◌, ◌++◌, Some, None, Option, map, slice_get, string_bytes, codes, if◌then◌else◌}
 use Rattle.std.specs.Fmt.{decimal}
 use Rattle.std.specs.Global.{Global}
-use Rattle.std.specs.List.{AllByRecursion}
+use Rattle.std.specs.List.{AllByRecursion, filter, flat_map, list_any}
 use Rattle.std.specs.declared.string.String.{String}
+use Rattle.pb_frame.specs.Admission.{same}
 use Rattle.pb_lan.specs.Events.{empty_record}
-use Rattle.pb_lan.specs.Numbering.{numbered}
+use Rattle.pb_lan.specs.Ports.{ends_of}
 use Rattle.pb_lan.specs.declared.event.Event.{Event}
 use Rattle.pb_lan.specs.declared.event.Event.TheVariants.{Admin}
 use Rattle.pb_lan.specs.declared.plan.Plan.{Plan}
@@ -14,55 +15,83 @@ use Rattle.pb_lan.specs.declared.plan.LinkPlan.{LinkPlan}
 use Rattle.pb_names.specs.Names.{bridge_name}
 use Rattle.pb_net.specs.Answers.{NetView}
 use Rattle.pb_converge.specs.Drives.{HaveDone}
+use Rattle.pb_converge.specs.declared.falling.DownFault.{DownFault}
+use Rattle.pb_converge.specs.declared.falling.DownFault.TheVariants.{Unknown, Ambiguous}
 
--- the text BRIDGE:PORT that names an end of a link
-abbrev pub end_words : Plan → End → List ℕ
-end_words plan e = bridge_name plan e.bridge ++ codes ":" ++ decimal e.port
+-- the name BRIDGE:PORT of an end of a link
+abbrev pub end_name : Plan → End → List ℕ
+end_name plan e = bridge_name plan e.bridge ++ codes ":" ++ decimal e.port
 
--- the text names this end of a link
-pub record Names (plan : Plan) (words : List ℕ) (e : End) : Type 0 where
-  pub number : ℕ
-  pub link : LinkPlan
-  pub there : numbered plan.links number ≡ Some link
-  pub end : (link.a ≡ e) ⊎ (link.b ≡ e)
-  pub words_are : words ≡ end_words plan e
+-- the text is the name of the bridge at this end
+abbrev pub is_at : Plan → List ℕ → End → Bool
+is_at plan name e = same name (bridge_name plan e.bridge)
 
--- the text names neither end of the link
-abbrev pub NamesNeither : Plan → List ℕ → LinkPlan → Type 0
-NamesNeither plan words link = (words ≡ end_words plan link.a → ⊥) × (words ≡ end_words plan link.b → ⊥)
+-- the text is the name of the link, or of a bridge at one of its ends
+abbrev pub fails : Plan → List ℕ → LinkPlan → Bool
+fails plan name link = same name link.name || (is_at plan name link.a || is_at plan name link.b)
 
-abbrev pub NamesNone : Plan → List ℕ → Type 0
-NamesNone plan words = AllByRecursion (NamesNeither plan words) plan.links
+-- The ends of a link that a name disables: both ends if it is the name of the link, or of a bridge at one of them;
+-- otherwise the end whose BRIDGE:PORT it is.
+abbrev pub ends_down : Plan → List ℕ → LinkPlan → List End
+ends_down plan name link =
+    if fails plan name link then ends_of link else filter (λ e. same name (end_name plan e)) (ends_of link)
 
--- the result is the end that the text names, or none if it names none
-abbrev pub AnswersEnd : Plan → List ℕ → Option End → Type 0
-AnswersEnd plan words None = NamesNone plan words
-AnswersEnd plan words (Some e) = Names plan words e
+-- those of all links
+abbrev pub all_down : Plan → List ℕ → List End
+all_down plan name = flat_map (ends_down plan name) plan.links
 
--- the named ends are disabled, in order
-abbrev pub AreFalls : Plan → List (String Global) → List Event → Type 0
-AreFalls plan [] [] = Unit {0}
-AreFalls plan (w ∷ words) (event ∷ events) =
-    (e : End) × Names plan (string_bytes w) e × (event ≡ Admin e.bridge e.port false) × AreFalls plan words events
-AreFalls plan _ _ = ⊥
+-- the event that disables an end
+abbrev pub set_down : End → Event
+set_down e = Admin e.bridge e.port false
+
+-- the events that disable what the names disable, in order
+abbrev pub downs : Plan → List (String Global) → List Event
+downs plan names = flat_map (λ w. map set_down (all_down plan (string_bytes w))) names
+
+-- the text is BRIDGE:PORT for an end of this link
+abbrev pub has_port : Plan → List ℕ → LinkPlan → Bool
+has_port plan name link = same name (end_name plan link.a) || same name (end_name plan link.b)
+
+-- the text is the name of a link, of a bridge, of an end of a link
+abbrev pub is_link : Plan → List ℕ → Bool
+is_link plan name = list_any (λ l. same name l.name) plan.links
+
+abbrev pub is_bridge : Plan → List ℕ → Bool
+is_bridge plan name = list_any (λ b. same name b.name) plan.bridges
+
+abbrev pub is_port : Plan → List ℕ → Bool
+is_port plan name = list_any (has_port plan name) plan.links
+
+-- the text is the name of one link, one bridge or one end of a link
+pub record IsClear (plan : Plan) (name : List ℕ) : Type 0 where
+  pub known : (is_link plan name || (is_bridge plan name || is_port plan name)) ≡ true
+  pub single : is_link plan name ≡ true → is_bridge plan name ≡ true → ⊥
+
+-- the text names nothing; or both a link and a bridge; or one thing
+abbrev pub Judges : Plan → List ℕ → ℕ → Option DownFault → Type 0
+Judges plan name index None = IsClear plan name
+Judges plan name index (Some (Unknown at)) =
+    (at ≡ index) × (is_link plan name ≡ false) × (is_bridge plan name ≡ false) × (is_port plan name ≡ false)
+Judges plan name index (Some (Ambiguous at)) =
+    (at ≡ index) × (is_link plan name ≡ true) × (is_bridge plan name ≡ true)
 
 -- a network that has taken no step
 abbrev pub fresh : Plan → NetView
 fresh plan = record { plan = plan; rec = empty_record plan }
 
--- the ends were disabled
-pub record HaveFallen (plan : Plan) (words : List (String Global)) (net : NetView) : Type 0 where
-  pub events : List Event
-  pub are_falls : AreFalls plan words events
-  pub done : HaveDone (fresh plan) events net
+-- each text is a name, and what it names was disabled
+pub record HaveFallen (plan : Plan) (names : List (String Global)) (net : NetView) : Type 0 where
+  pub clear : AllByRecursion (λ w. IsClear plan (string_bytes w)) names
+  pub done : HaveDone (fresh plan) (downs plan names) net
 
--- the text at this index names no end of a link
-pub record LacksEnd (plan : Plan) (words : List (String Global)) (index : ℕ) : Type 0 where
+-- a name is refused for this reason
+pub record IsRefused (plan : Plan) (names : List (String Global)) (fault : DownFault) : Type 0 where
+  pub index : ℕ
   pub w : String Global
-  pub there : slice_get words index ≡ Some w
-  pub none : NamesNone plan (string_bytes w)
+  pub there : slice_get names index ≡ Some w
+  pub reason : Judges plan (string_bytes w) index (Some fault)
 
--- the named ends were disabled, or the text at this index names none
-abbrev pub AnswersFalls : Plan → List (String Global) → Option ℕ → NetView → Type 0
-AnswersFalls plan words None net = HaveFallen plan words net
-AnswersFalls plan words (Some index) net = LacksEnd plan words index
+-- what the names disable was disabled; or one of them is refused
+abbrev pub AnswersFalls : Plan → List (String Global) → Option DownFault → NetView → Type 0
+AnswersFalls plan names None net = HaveFallen plan names net
+AnswersFalls plan names (Some fault) net = IsRefused plan names fault

@@ -1,4 +1,5 @@
 pub mod Drives
 pub mod Sweeps
 pub mod Falls
+pub mod Suggestions
 pub mod Rests

@@ -1,50 +1,126 @@
 //! Disables the ends of links that arguments name.
 
-ghost use Rattle.std.specs.Option.{option_copied};
-ghost use Rattle.std.specs.Prelude.{◌≡◌, ◌↔◌, ◌∷◌, [], true, false, string_bytes, IsTrue, OnOk, IfOk};
+ghost use Rattle.std.specs.Prelude.{◌≡◌, ◌∷◌, [], map, true, IfOk, OnOk};
+ghost use Rattle.std.specs.List.{filter};
+ghost use Rattle.pb_frame.specs.Admission.{same};
 ghost use Rattle.pb_lan.specs.Plans.{IsSound};
 ghost use Rattle.pb_lan.specs.Ports.{is_provider, port_at};
 ghost use Rattle.pb_converge.specs.Drives.{HaveDone};
-ghost use Rattle.pb_converge.specs.Falls.{end_words, AnswersEnd, AnswersFalls, fresh};
+ghost use Rattle.pb_converge.specs.Falls.{
+  all_down,
+  ends_down,
+  end_name,
+  fails,
+  fresh,
+  has_port,
+  is_link,
+  is_bridge,
+  is_port,
+  is_at,
+  set_down,
+  AnswersFalls,
+  Judges,
+};
 
 use pb_frame::Memory;
-use pb_lan::{End, Event, Plan};
+use pb_lan::{End, Event, LinkPlan, Plan};
 use pb_messages::CommandFault;
 use pb_names::bridge_name;
 use pb_net::{Net, NetFault};
 use std::alloc::Global;
 
-/// Checks whether a text names an end of a link.
-///
-/// # Errors
-///
-/// `Memory` if the allocation of a text failed.
-fn is_named(alloc: Global, plan: &Plan, end: &End, words: &str) -> Result<bool, Memory>
-    ensures { IfOk result (λ yes. IsTrue yes ↔ (words.now ≡ end_words plan.now end.now)) }
-{
-    let name = bridge_name(plan, end.bridge);
-    let port = end.port;
-    let text = format!(in alloc; "{name}:{port}")?;
-    Ok(words == text.as_str())
+/// The reason why a name disables nothing. The index of the name counts from 0.
+#[derive(Clone, Copy, Debug, PartialEq, Eq)]
+pub enum DownFault {
+    /// No link, no bridge and no port to another bridge has this name.
+    Unknown(usize),
+    /// A link and a bridge have this name.
+    Ambiguous(usize),
 }
 
-/// Returns the end of a link that a text names, if there is one.
+/// Checks whether a text is `BRIDGE:PORT` for an end of a link.
 ///
 /// # Errors
 ///
 /// `Memory` if the allocation of a text failed.
-fn named_end<'a>(alloc: Global, plan: &'a Plan, words: &str) -> Result<Option<&'a End>, Memory>
-    ensures { IfOk result (λ end. AnswersEnd plan.now words.now (option_copied end)) }
+fn is_named(alloc: Global, plan: &Plan, end: &End, name: &str) -> Result<bool, Memory>
+    ensures { IfOk result (λ yes. yes ≡ same name.now (end_name plan.now end.now)) }
+{
+    let bridge = bridge_name(plan, end.bridge);
+    let port = end.port;
+    let text = format!(in alloc; "{bridge}:{port}")?;
+    Ok(name == text.as_str())
+}
+
+/// Checks whether a text is `BRIDGE:PORT` for an end of this link.
+///
+/// # Errors
+///
+/// `Memory` if the allocation of a text failed.
+fn has_port(alloc: Global, plan: &Plan, name: &str, link: &LinkPlan) -> Result<bool, Memory>
+    ensures { IfOk result (λ yes. yes ≡ has_port plan.now name.now link.now) }
+{
+    let a = is_named(alloc, plan, &link.a, name)?;
+    let b = is_named(alloc, plan, &link.b, name)?;
+    Ok(a || b)
+}
+
+/// Checks whether a text is the name of a link.
+fn is_link(plan: &Plan, name: &str) -> bool
+    ensures { result ≡ is_link plan.now name.now }
 {
     for link in plan.links.as_slice() {
-        if is_named(alloc, plan, &link.a, words)? {
-            return Ok(Some(&link.a));
-        }
-        if is_named(alloc, plan, &link.b, words)? {
-            return Ok(Some(&link.b));
+        if name == link.name.as_str() {
+            return true;
         }
     }
-    Ok(None)
+    false
+}
+
+/// Checks whether a text is the name of a bridge.
+fn is_bridge(plan: &Plan, name: &str) -> bool
+    ensures { result ≡ is_bridge plan.now name.now }
+{
+    for bridge in plan.bridges.as_slice() {
+        if name == bridge.name.as_str() {
+            return true;
+        }
+    }
+    false
+}
+
+/// Checks whether a text is `BRIDGE:PORT` for an end of a link.
+///
+/// # Errors
+///
+/// `Memory` if the allocation of a text failed.
+fn is_port(alloc: Global, plan: &Plan, name: &str) -> Result<bool, Memory>
+    ensures { IfOk result (λ yes. yes ≡ is_port plan.now name.now) }
+{
+    for link in plan.links.as_slice() {
+        if has_port(alloc, plan, name, link)? {
+            return Ok(true);
+        }
+    }
+    Ok(false)
+}
+
+/// Returns why the name at this index disables nothing, or `None` if it names one link, bridge or port.
+///
+/// # Errors
+///
+/// `Memory` if the allocation of a text failed.
+fn judge(alloc: Global, plan: &Plan, name: &str, index: usize) -> Result<Option<DownFault>, Memory>
+    ensures { IfOk result (λ fault. Judges plan.now name.now index fault) }
+{
+    let (link, bridge) = (is_link(plan, name), is_bridge(plan, name));
+    if link && bridge {
+        return Ok(Some(DownFault::Ambiguous(index)));
+    }
+    if link || bridge || is_port(alloc, plan, name)? {
+        return Ok(None);
+    }
+    Ok(Some(DownFault::Unknown(index)))
 }
 
 /// Disables a port to another bridge.
@@ -52,11 +128,13 @@ fn named_end<'a>(alloc: Global, plan: &'a Plan, words: &str) -> Result<Option<&'
 /// # Errors
 ///
 /// `Steps` if the bridge has taken the plan's number of steps, `Memory` if an allocation failed.
-fn fall(net: &mut Net, bridge: u8, port: u8) -> Result<(), CommandFault>
-    requires { is_provider (port_at net.old.plan bridge port) ≡ true }
-    ensures { OnOk result (HaveDone net.old (Event.Admin bridge port false ∷ []) net.new) }
+fn fall(net: &mut Net, plan: &Plan, end: &End) -> Result<(), CommandFault>
+    requires plan { net.old.plan ≡ plan.now }
+    requires there { is_provider (port_at plan.now end.now.bridge end.now.port) ≡ true }
+    ensures plan { OnOk result (net.new.plan ≡ plan.now) }
+    ensures done { OnOk result (HaveDone net.old (set_down end.now ∷ []) net.new) }
 {
-    let up = false;
+    let (bridge, port, up) = (end.bridge, end.port, false);
     match net.step(Event::Admin { bridge, port, up }) {
         Ok(_) => Ok(()),
         Err(NetFault::StepLimit) => Err(CommandFault::Steps),
@@ -65,11 +143,94 @@ fn fall(net: &mut Net, bridge: u8, port: u8) -> Result<(), CommandFault>
     }
 }
 
-/// Disables the ends of links that texts name, in order, in a network that has taken no step.
+/// Disables a port to another bridge if a text is `BRIDGE:PORT` for it.
 ///
-/// Each of `words` names a port to another bridge by `BRIDGE:PORT`, the bridge's name and its local port. That end of
-/// its link is disabled, and the neighbour's end stays enabled. Returns the index, from 0, of the first text that names
-/// no end of a link. The ends that the texts before it name are disabled then.
+/// # Errors
+///
+/// `Steps` if the bridge has taken the plan's number of steps, `Memory` if an allocation failed.
+fn fall_if_named(
+    alloc: Global,
+    net: &mut Net,
+    plan: &Plan,
+    name: &str,
+    end: &End,
+) -> Result<(), CommandFault>
+    requires plan { net.old.plan ≡ plan.now }
+    requires there { is_provider (port_at plan.now end.now.bridge end.now.port) ≡ true }
+    ensures plan { OnOk result (net.new.plan ≡ plan.now) }
+    ensures done { OnOk result (HaveDone net.old
+        (map set_down (filter (λ e. same name.now (end_name plan.now e)) (end.now ∷ []))) net.new) }
+{
+    if is_named(alloc, plan, end, name)? {
+        fall(net, plan, end)?;
+    }
+    Ok(())
+}
+
+/// Checks whether a text is the name of the bridge at an end of a link.
+fn is_at(plan: &Plan, name: &str, end: &End) -> bool
+    ensures { result ≡ is_at plan.now name.now end.now }
+{
+    name == bridge_name(plan, end.bridge)
+}
+
+/// Checks whether a name disables both ends of a link: it is the name of the link, or of a bridge at one of its ends.
+fn fails(plan: &Plan, name: &str, link: &LinkPlan) -> bool
+    ensures { result ≡ fails plan.now name.now link.now }
+{
+    name == link.name.as_str() || is_at(plan, name, &link.a) || is_at(plan, name, &link.b)
+}
+
+/// Disables the ends of a link that a name disables.
+///
+/// # Errors
+///
+/// `Steps` if a bridge has taken the plan's number of steps, `Memory` if an allocation failed.
+fn fall_link(
+    alloc: Global,
+    net: &mut Net,
+    plan: &Plan,
+    name: &str,
+    link: &LinkPlan,
+) -> Result<(), CommandFault>
+    requires plan { net.old.plan ≡ plan.now }
+    requires a { is_provider (port_at plan.now link.now.a.bridge link.now.a.port) ≡ true }
+    requires b { is_provider (port_at plan.now link.now.b.bridge link.now.b.port) ≡ true }
+    ensures plan { OnOk result (net.new.plan ≡ plan.now) }
+    ensures done { OnOk result (HaveDone net.old (map set_down (ends_down plan.now name.now link.now)) net.new) }
+{
+    if fails(plan, name, link) {
+        fall(net, plan, &link.a)?;
+        fall(net, plan, &link.b)?;
+        return Ok(());
+    }
+    fall_if_named(alloc, net, plan, name, &link.a)?;
+    fall_if_named(alloc, net, plan, name, &link.b)
+}
+
+/// Disables the ends of all links that a name disables, in the plan's order.
+///
+/// # Errors
+///
+/// `Steps` if a bridge has taken the plan's number of steps, `Memory` if an allocation failed.
+fn fall_named(alloc: Global, net: &mut Net, plan: &Plan, name: &str) -> Result<(), CommandFault>
+    requires sound { IsSound plan.now }
+    requires plan { net.old.plan ≡ plan.now }
+    ensures plan { OnOk result (net.new.plan ≡ plan.now) }
+    ensures done { OnOk result (HaveDone net.old (map set_down (all_down plan.now name.now)) net.new) }
+{
+    for link in plan.links.as_slice() {
+        fall_link(alloc, net, plan, name, link)?;
+    }
+    Ok(())
+}
+
+/// Disables the ends of links that names disable, in order, in a network that has taken no step.
+///
+/// Each of `names` is the name of a link, of a bridge, or of a port to another bridge as `BRIDGE:PORT`, with the local
+/// port of the bridge. A link's name disables both of its ends. A bridge's name disables both ends of each of its
+/// links, which may be none. `BRIDGE:PORT` disables that end alone, and the neighbour's end stays enabled. Returns the
+/// first name that is unknown, or that a link and a bridge have. The names before it have had their effect then.
 ///
 /// # Errors
 ///
@@ -78,17 +239,17 @@ pub fn falls(
     alloc: Global,
     net: &mut Net,
     plan: &Plan,
-    words: &[String],
-) -> Result<Option<usize>, CommandFault>
+    names: &[String],
+) -> Result<Option<DownFault>, CommandFault>
     requires sound { IsSound plan.now }
     requires fresh { net.old ≡ fresh plan.now }
-    ensures { IfOk result (λ lacking. AnswersFalls plan.now words.now lacking net.new) }
+    ensures { IfOk result (λ fault. AnswersFalls plan.now names.now fault net.new) }
 {
-    for (index, word) in words.iter().enumerate() {
-        let Some(end) = named_end(alloc, plan, word.as_str())? else {
-            return Ok(Some(index));
-        };
-        fall(net, end.bridge, end.port)?;
+    for (index, name) in names.iter().enumerate() {
+        match judge(alloc, plan, name.as_str(), index)? {
+            Some(fault) => return Ok(Some(fault)),
+            None => fall_named(alloc, net, plan, name.as_str())?,
+        }
     }
     Ok(None)
 }

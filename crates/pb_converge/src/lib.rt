@@ -1,5 +1,5 @@
 //! Drives a network to quiescence (`drain`) and its bridges to convergence (`settle`), over pb_net. `falls` disables
-//! the ports that a command's arguments name first. Begin reading at `settle`.
+//! the links, bridges and ports that a command's arguments name first. Begin reading at `settle`.
 #![tactic(auto)]
 
 mod draining;
@@ -9,11 +9,13 @@ mod nets;
 mod rest;
 mod resting;
 mod settling;
+mod suggesting;
 
 pub use draining::drain;
-pub use falling::falls;
+pub use falling::{DownFault, falls};
 pub use fault::DriveFault;
 pub use nets::{fresh, shape_of};
 pub use rest::Rest;
 pub use resting::{fault_of, put_rest, rests};
 pub use settling::settle;
+pub use suggesting::suggestion;
