@@ -1,9 +1,9 @@
--- The command: ports are disabled, the bridges converge, and the network is drawn.
+-- The command: links, bridges and ports are disabled, the bridges converge, and the network is drawn.
 use Rattle.std.specs.Prelude.{◌≡◌, ◌⊎◌, ℕ, Bool, true, false, List, [], Some, None, nat_lt}
 use Rattle.std.specs.Borrow.{Bor}
 use Rattle.std.specs.Io.KnownBytes.{Appends}
 use Rattle.std.specs.declared.option.Option.{Option}
-use Rattle.pb_converge.specs.Falls.{HaveFallen, LacksEnd}
+use Rattle.pb_converge.specs.Falls.{HaveFallen, IsRefused}
 use Rattle.pb_lan.specs.LastShapes.{last_shape}
 use Rattle.pb_lan.specs.declared.plan.Plan.{Plan}
 use Rattle.pb_lan.specs.declared.shape.Shape.{Shape}
@@ -20,7 +20,7 @@ use Rattle.pb_cmd_draw.specs.declared.asked.Asked.{Asked}
 use Rattle.pb_cmd_draw.specs.declared.end.Format.{Format}
 use Rattle.pb_cmd_draw.specs.declared.end.Format.TheVariants.{Svg, Dot}
 use Rattle.pb_cmd_draw.specs.declared.end.DrawEnd.{DrawEnd}
-use Rattle.pb_cmd_draw.specs.declared.end.DrawEnd.TheVariants.{Drawn, Refused, NoPort, NoService}
+use Rattle.pb_cmd_draw.specs.declared.end.DrawEnd.TheVariants.{Drawn, Refused, NoDown, NoService}
 use Rattle.pb_draw_layout.specs.declared.scene.Scene.{Scene}
 
 -- the plan has the service to highlight, if one is requested
@@ -50,17 +50,17 @@ pub record IsDrawingFrom (plan : Plan) (asked : Asked) (fallen : NetView) (rest 
   pub rested : HasRested asked.ticks 1000000000 rest fallen last
   pub picture : IsPictureOf plan (last_shape plan last.rec) (chosen_of plan asked.service) asked.format text
 
--- the named ports are disabled first
+-- what the names disable is disabled first
 pub record IsDrawing (plan : Plan) (asked : Asked) (rest : Rest) (text : List ℕ) : Type 0 where
   pub found : is_found plan asked.service ≡ true
   pub fallen : NetView
   pub falls : HaveFallen plan asked.downs.now fallen
   pub drawing : IsDrawingFrom plan asked fallen rest text
 
--- the picture; or nothing, if an argument names no end of a link or the plan lacks the service
+-- the picture; or nothing, if a name is refused or the plan lacks the service
 abbrev pub HasDrawn : Plan → Asked → DrawEnd → List ℕ → Type 0
 HasDrawn plan asked (Drawn rest) text = IsDrawing plan asked rest text
-HasDrawn plan asked (NoPort index) text = LacksEnd plan asked.downs.now index × (text ≡ [])
+HasDrawn plan asked (NoDown fault) text = IsRefused plan asked.downs.now fault × (text ≡ [])
 HasDrawn plan asked NoService text = (is_found plan asked.service ≡ false) × (text ≡ [])
 HasDrawn plan asked Refused text = ⊥
 

@@ -7,7 +7,7 @@ use crate::end::Format;
 pub struct Asked<'a> {
     /// The name of the service to highlight, if any.
     pub service: Option<&'a str>,
-    /// The ports to other bridges to disable first, each as `BRIDGE:PORT`.
+    /// What is disabled first: names of links and bridges, and ports as `BRIDGE:PORT`.
     pub downs: &'a [String],
     /// The most ticks of each bridge until convergence.
     pub ticks: u32,

@@ -100,8 +100,8 @@ fn put_rested(
     Ok(rest)
 }
 
-/// Disables the ports that `asked.downs` names, and appends the picture. If an argument names no end of a link, nothing
-/// is appended, and `NoPort` with its index is returned.
+/// Disables what `asked.downs` names, and appends the picture. If a name is unknown or ambiguous, nothing is appended,
+/// and `NoDown` is returned.
 fn put_fallen(
     alloc: Global,
     out: &mut String,
@@ -115,7 +115,7 @@ fn put_fallen(
 {
     let mut net = fresh(alloc, plan)?;
     match falls(alloc, &mut net, plan, asked.downs)? {
-        Some(index) => Ok(DrawEnd::NoPort(index)),
+        Some(fault) => Ok(DrawEnd::NoDown(fault)),
         None => {
             let rest = put_rested(alloc, out, plan, net, asked)?;
             Ok(DrawEnd::Drawn(rest))
@@ -159,17 +159,17 @@ fn draw<W: Write>(
     Ok(end)
 }
 
-/// Reads a plan file, disables ports, drives the bridges to convergence, and writes a picture of the network.
+/// Reads a plan file, disables links, bridges and ports, drives the bridges to convergence, and writes a picture of the
+/// network.
 ///
-/// Each of `asked.downs` names a port to another bridge by `BRIDGE:PORT`: the name of the bridge and its local port.
-/// That end of its link is disabled; the bridge at the other end gets no sign of it. If the bridges run the rapid
-/// spanning tree (IEEE 802.1D-2004 clause 17), each takes at most `asked.ticks` ticks (seconds). The picture has the
-/// states at the end, converged or not, and `Drawn` has which. [`scene_of`] decides what is drawn, [`put_svg`] and
-/// [`put_dot`] how.
+/// Each of `asked.downs` names a link, a bridge, or a port to another bridge as `BRIDGE:PORT`, as [`falls`] describes.
+/// If the bridges run the rapid spanning tree (IEEE 802.1D-2004 clause 17), each takes at most `asked.ticks` ticks
+/// (seconds). The picture has the states at the end, converged or not, and `Drawn` has which. [`scene_of`] decides what
+/// is drawn, [`put_svg`] and [`put_dot`] how.
 ///
 /// If the file is not a valid plan, the line `plan: N WORD` is written, as `check` prints it, and `Refused` is
-/// returned. `NoService` is returned if the plan lacks the service, and else `NoPort` if an argument names no port to
-/// another bridge; nothing is written in these two cases.
+/// returned. `NoService` is returned if the plan lacks the service, and else `NoDown` if a name of `asked.downs` is
+/// unknown or ambiguous; nothing is written in these two cases.
 ///
 /// # Errors
 ///

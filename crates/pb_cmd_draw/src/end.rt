@@ -1,6 +1,6 @@
 //! How the command ends, and the formats of a picture.
 
-use pb_converge::Rest;
+use pb_converge::{DownFault, Rest};
 
 /// The format of a picture.
 #[derive(Clone, Copy, Debug, PartialEq, Eq)]
@@ -18,8 +18,8 @@ pub enum DrawEnd {
     Drawn(Rest),
     /// The file is not a valid plan, and the line `plan: N WORD` was written.
     Refused,
-    /// The argument at this index, from 0, names no port to another bridge. Nothing was written.
-    NoPort(usize),
+    /// A name to disable is unknown or ambiguous. Nothing was written.
+    NoDown(DownFault),
     /// The plan has no service with the name. Nothing was written.
     NoService,
 }

@@ -18,7 +18,7 @@ pub use asked::Asked;
 pub use dot::put_dot;
 pub use draw::run_draw;
 pub use end::{DrawEnd, Format};
-pub use pb_converge::Rest;
+pub use pb_converge::{DownFault, Rest};
 pub use pb_draw_layout::{
     BridgeFacts, BridgeMark, Lane, LinkFacts, LinkMark, Point, PortFacts, PortMark, Route, Scene,
     ServiceFacts, ServiceMark, Tone, scene_of,

@@ -1,5 +1,5 @@
 -- Frames that are injected one after the other.
-use Rattle.std.proofs.Common.{◌≡◌, ◌<◌, ◌+◌, ℕ, Bool, true, false, List, [], ◌∷◌, ◌++◌, take, length, get_or}
+use Rattle.std.proofs.Common.{◌≡◌, ◌<◌, ◌+◌, ℕ, true, false, List, [], ◌∷◌, ◌++◌, take, length, get_or}
 use Rattle.std.proofs.Common.{string_bytes, Option, Ok, refl, sym, ap, subst, ◌∙◌, append_assoc, append-nil}
 use Rattle.std.proofs.lemmas.List.{take_more}
 use Rattle.pb_frame.proofs.Things.{here_is}
@@ -16,10 +16,12 @@ use Rattle.pb_names.specs.Numbers.{port_named}
 use Rattle.pb_cmd_trace.specs.Stories.{AnswersEntry, sent, unsent, AnswersFrame, followed, waits, absent, AreStories}
 use Rattle.pb_cmd_trace.specs.Stories.{IsRoundStory, IsSent, IsConclusion, IsEntry, IsFollowed}
 use Rattle.pb_report.specs.PlanFiles.{IsToldBy}
-use Rattle.pb_cmd_trace.specs.Traces.{HasTraced, HasTold}
+use Rattle.pb_converge.specs.Falls.{HaveFallen}
+use Rattle.pb_cmd_trace.specs.Traces.{HasTraced, HasTold, EndsTrace, AnswersTrace}
 use Rattle.pb_cmd_trace.specs.Walks.{HasWalked}
+use Rattle.pb_cmd_trace.specs.declared.asked.Asked.{Asked}
 use Rattle.pb_cmd_trace.specs.declared.end.TraceEnd.{TraceEnd}
-use Rattle.pb_cmd_trace.specs.declared.end.TraceEnd.TheVariants.{Told, Refused, NoPort, NoFrame}
+use Rattle.pb_cmd_trace.specs.declared.end.TraceEnd.TheVariants.{Told, Refused, NoPort, NoFrame, NoDown}
 use Rattle.pb_cmd_trace.specs.declared.entry.Entry.{Entry}
 use Rattle.pb_cmd_trace.specs.declared.frame.Fate.{Fate}
 use Rattle.pb_cmd_trace.specs.declared.frame.Fate.TheVariants.{Ended as fate_ended, GoesRound as fate_round}
@@ -177,11 +179,20 @@ round_told plan entries k entry frame old mid new first text more out out' withi
   },
 )
 
+-- the traces after what the names disable was disabled, for put_trace
+pub fallen_trace : (plan : Plan) (asked : Asked) (end : TraceEnd) (fallen : NetView) (text : List ℕ)
+    → HaveFallen plan asked.downs.now fallen → EndsTrace plan asked end fallen text → AnswersTrace plan asked end text
+fallen_trace plan asked Told fallen text falls trace = record { fallen = fallen; falls = falls; trace = trace }
+fallen_trace plan asked Refused fallen text falls none = none
+fallen_trace plan asked (NoPort index) fallen text falls lacks = lacks
+fallen_trace plan asked (NoFrame index) fallen text falls lacks = lacks
+fallen_trace plan asked (NoDown fault) fallen text falls none = absurd none
+
 -- what the command has written for the plan of a file, for the contract of run_trace
-pub told_of : (file : List ℕ) (plan : Plan) (entries : List Entry) (settles : Bool) (end : TraceEnd)
-    (before after : Option (List ℕ)) → IsToldBy file plan → HasTraced plan entries settles end before after
-    → HasTold file entries settles end before after
-told_of file plan entries settles Told before after told h = (plan, told, h)
-told_of file plan entries settles Refused before after told h = absurd h
-told_of file plan entries settles (NoPort index) before after told h = (plan, told, h)
-told_of file plan entries settles (NoFrame index) before after told h = (plan, told, h)
+pub told_of : (file : List ℕ) (plan : Plan) (asked : Asked) (end : TraceEnd) (before after : Option (List ℕ))
+    → IsToldBy file plan → HasTraced plan asked end before after → HasTold file asked end before after
+told_of file plan asked Told before after told h = (plan, told, h)
+told_of file plan asked Refused before after told h = absurd h
+told_of file plan asked (NoPort index) before after told h = (plan, told, h)
+told_of file plan asked (NoFrame index) before after told h = (plan, told, h)
+told_of file plan asked (NoDown fault) before after told h = (plan, told, h)

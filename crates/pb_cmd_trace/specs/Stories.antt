@@ -1,5 +1,5 @@
 -- The traces of frames that are injected one after the other.
-use Rattle.std.specs.Prelude.{◌≡◌, ◌<◌, ℕ, Bool, true, false, List, [], ◌∷◌, ◌++◌, Some, None, Ok, Err, codes, length, take, slice_get, string_bytes, ◌==◌, if◌then◌else◌}
+use Rattle.std.specs.Prelude.{◌≡◌, ◌<◌, ℕ, false, List, Option, [], ◌∷◌, ◌++◌, Some, None, Ok, Err, codes, length, take, slice_get, string_bytes, ◌==◌, if◌then◌else◌}
 use Rattle.std.specs.Fmt.{decimal}
 use Rattle.pb_converge.specs.Rests.{rest_line}
 use Rattle.pb_frame.specs.Hex.{IsHex}
@@ -29,10 +29,10 @@ use Rattle.pb_cmd_trace.specs.declared.round.FrameId.{FrameId}
 use Rattle.pb_cmd_trace.specs.declared.walk.Course.{Course}
 use Rattle.pb_cmd_trace.specs.declared.walk.Course.TheVariants.{Ended, GoesRound}
 
--- the bridges converged first, if that was requested
-abbrev pub HasBegun : Bool → NetView → NetView → List ℕ → Type 0
-HasBegun true old new text = (rest : Rest) × HasRested 200 1000000000 rest old new × (text ≡ rest_line rest)
-HasBegun false old new text = (new ≡ old) × (text ≡ [])
+-- the bridges converged first within so many ticks of each, if that was requested
+abbrev pub HasBegun : Option ℕ → NetView → NetView → List ℕ → Type 0
+HasBegun (Some ticks) old new text = (rest : Rest) × HasRested ticks 1000000000 rest old new × (text ≡ rest_line rest)
+HasBegun None old new text = (new ≡ old) × (text ≡ [])
 
 -- the number of an injected frame among those of its port
 abbrev pub entry_number : Step → ℕ
@@ -48,7 +48,7 @@ pub record IsEntry (plan : Plan) (port number : ℕ) (net : NetView) (text : Lis
 
 -- the number of other events that were due
 abbrev pub others_line : ℕ → List ℕ
-others_line others = if others == 0 then [] else (codes "others " ++ decimal others ++ 10 ∷ [])
+others_line others = if others == 0 then [] else (codes "other events " ++ decimal others ++ 10 ∷ [])
 
 -- a frame went as far as it goes, and all else that was due was done; or it is in a loop, and nothing else was done
 abbrev pub IsConclusion : Course → Fate → ℕ → NetView → NetView → List ℕ → Type 0

@@ -40,7 +40,7 @@ passed_words plan rec frame = flat_map (passed_word plan rec frame) (numbers_fro
 -- the line of a frame in a forwarding loop, if there is one
 abbrev pub round_line : Plan → Record → Option FrameId → List ℕ
 round_line plan rec None = []
-round_line plan rec (Some frame) = codes "goes round over" ++ passed_words plan rec frame ++ (codes "; ended after 1000 events" ++ 10 ∷ [])
+round_line plan rec (Some frame) = codes "loops over" ++ passed_words plan rec frame ++ (codes "; ended after 1000 events" ++ 10 ∷ [])
 
 -- a customer port delivered a frame
 abbrev pub is_delivery : Step → Bool
@@ -55,8 +55,9 @@ left_word plan rec port = if list_any is_delivery (steps_of rec.customers port) 
 abbrev pub left_words : Plan → Record → List ℕ
 left_words plan rec = flat_map (left_word plan rec) (numbers_from 1 plan.customers)
 
+-- the customer ports that delivered frames, or that none did
 abbrev pub left_text : List ℕ → List ℕ
-left_text names = if length names == 0 then codes "left nowhere" else codes "left at" ++ names
+left_text names = if length names == 0 then codes "not delivered" else codes "delivered at" ++ names
 
 -- the copies that an outcome drops: a filtered frame, or one for each port that got no copy
 abbrev pub refused_by : Outcome → ℕ
@@ -82,6 +83,7 @@ losses _ = 0
 abbrev pub lost : List (List Step) → ℕ
 lost lanes = sum_by (λ steps. sum_by losses steps) lanes
 
+-- the numbers of dropped and of lost frames
 abbrev pub counts_text : ℕ → ℕ → List ℕ
 counts_text refused lost = codes "; refused " ++ decimal refused ++ codes "; lost " ++ decimal lost ++ 10 ∷ []
 

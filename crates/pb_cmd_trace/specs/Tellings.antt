@@ -56,13 +56,14 @@ service_words plan vid priority = codes ", " ++ name_of_vid plan vid ++ codes " 
 abbrev pub customer_words : Plan → CustomerPlan → List ℕ → List ℕ
 customer_words plan customer wire =
     if has_priority_tag wire
-    then service_words plan (vid_at plan customer) (priority_of wire) ++ codes ", tag " ++ tag_text wire ++ codes " taken off"
+    then service_words plan (vid_at plan customer) (priority_of wire) ++ codes ", tag " ++ tag_text wire ++ codes " removed"
     else service_words plan (vid_at plan customer) customer.pcp
 
 -- a frame from another bridge has the service and the priority of its tag
 abbrev pub tagged_words : Plan → List ℕ → List ℕ
 tagged_words plan wire = if has_service_tag wire then service_words plan (vid_of wire) (priority_of wire) else codes ", untagged"
 
+-- the service and the priority of a frame from a customer port, or from another bridge
 abbrev pub class_by : Plan → Option CustomerPlan → List ℕ → List ℕ
 class_by plan (Some customer) wire = customer_words plan customer wire
 class_by plan None wire = tagged_words plan wire
@@ -78,14 +79,15 @@ learnt_words (Some New) = codes ", source learnt"
 learnt_words (Some Kept) = codes ", source known"
 learnt_words (Some Moved) = codes ", source moved"
 learnt_words (Some Full) = codes ", table full"
-learnt_words (Some Group) = codes ", source a group"
+learnt_words (Some Group) = codes ", source is a group address"
 learnt_words (Some Memory) = codes ", source not learnt"
 
--- why a relayed frame is sent where it is
+-- why a relayed frame is sent at these ports; without a port it is dropped
 abbrev pub way_word : Plan → ℕ → List Step → ℕ → List ℕ → List ℕ → List ℕ
 way_word plan bridge steps port wire chosen =
-    if length chosen == 0 then codes ", nowhere" else (if is_known plan bridge steps port wire then codes ", known" else codes ", flooded")
+    if length chosen == 0 then codes ", no egress port" else (if is_known plan bridge steps port wire then codes ", known" else codes ", flooded")
 
+-- why a received frame is sent at its ports
 abbrev pub way_words : Plan → ℕ → List Step → ℕ → List ℕ → Outcome → List ℕ
 way_words plan bridge steps port wire (Relayed chosen refused) = way_word plan bridge steps port wire chosen
 way_words plan bridge steps port wire (Filtered reason) = []
@@ -98,14 +100,16 @@ receipt_words plan bridge port steps (Received at item learnt outcome moved) =
     ++ class_words plan bridge port item.wire ++ learnt_words learnt ++ way_words plan bridge steps port item.wire outcome
 receipt_words plan bridge port steps _ = []
 
--- a tag is added by the first bridge, and removed before a customer port
-abbrev pub put_on_words : ℕ → List ℕ
-put_on_words hops = if hops == 1 then codes " put on" else []
+-- whether the sending bridge added the tag: the first bridge does
+abbrev pub added_word : ℕ → List ℕ
+added_word hops = if hops == 1 then codes " added" else []
 
+-- the tag of a copy to another bridge; before a customer port it is removed
 abbrev pub tag_by : Option CustomerPlan → Item → List ℕ
-tag_by (Some customer) item = if nat_lt 1 item.hops then codes ", tag taken off" else []
-tag_by None item = if has_service_tag item.wire then codes ", tag " ++ tag_text item.wire ++ put_on_words item.hops else []
+tag_by (Some customer) item = if nat_lt 1 item.hops then codes ", tag removed" else []
+tag_by None item = if has_service_tag item.wire then codes ", tag " ++ tag_text item.wire ++ added_word item.hops else []
 
+-- the tag of a copy that a bridge sent
 abbrev pub tag_words : Plan → ℕ → ℕ → Step → List ℕ
 tag_words plan bridge port (Transmitted at item) = tag_by (customer_at plan bridge port) item
 tag_words plan bridge port _ = []

@@ -1,5 +1,7 @@
 //! How the command ends.
 
+use pb_converge::DownFault;
+
 /// The result of the command, if it ended without a fault.
 #[derive(Clone, Copy, Debug, PartialEq, Eq)]
 pub enum TraceEnd {
@@ -11,4 +13,6 @@ pub enum TraceEnd {
     NoPort(usize),
     /// The digits at this index, from 0, are no frame. Nothing was written.
     NoFrame(usize),
+    /// A name to disable is unknown or ambiguous. Nothing was written.
+    NoDown(DownFault),
 }

@@ -41,7 +41,7 @@ fn put_others(out: &mut String, others: u64) -> Result<(), Memory>
     ensures { OnOk result (string_bytes out.new ≡ string_bytes out.old ++ others_line others) }
 {
     if others != 0 {
-        writeln!(out, "others {others}")?;
+        writeln!(out, "other events {others}")?;
     }
     Ok(())
 }

@@ -3,6 +3,7 @@
 //! Begin reading at `trace.rt`, [`run_trace`], then `walk.rt`.
 #![tactic(auto)]
 
+mod asked;
 mod end;
 mod entry;
 mod following;
@@ -20,6 +21,8 @@ mod telling;
 mod trace;
 mod walk;
 
+pub use asked::Asked;
 pub use end::TraceEnd;
 pub use entry::Entry;
+pub use pb_converge::DownFault;
 pub use trace::run_trace;

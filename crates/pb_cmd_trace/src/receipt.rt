@@ -48,7 +48,7 @@ fn put_customer(
     }
     put_service(out, plan, vid, priority_of(wire))?;
     let tag = tag_text(alloc, wire)?;
-    write!(out, ", tag {tag} taken off")?;
+    write!(out, ", tag {tag} removed")?;
     Ok(())
 }
 
@@ -90,12 +90,13 @@ fn learnt_words(learnt: Option<Learnt>) -> &'static str
         Some(Learnt::Kept) => ", source known",
         Some(Learnt::Moved) => ", source moved",
         Some(Learnt::Full) => ", table full",
-        Some(Learnt::Group) => ", source a group",
+        Some(Learnt::Group) => ", source is a group address",
         Some(Learnt::Memory) => ", source not learnt",
     }
 }
 
-/// Returns why a relayed frame is sent at the chosen ports: its station is known, or it is flooded.
+/// Returns why a relayed frame is sent at the chosen ports: its station is known, or it is flooded. A frame with no
+/// egress port is dropped (IEEE 802.1Q clause 8.6).
 fn way_word(
     plan: &Plan,
     bridge: u8,
@@ -107,7 +108,7 @@ fn way_word(
     ensures { result.now ≡ way_word plan.now bridge steps.now port wire.now chosen.now }
 {
     if chosen.is_empty() {
-        return ", nowhere";
+        return ", no egress port";
     }
     if is_known(plan, bridge, steps, port, wire) {
         ", known"

@@ -10,26 +10,23 @@ use pb_messages::CommandFault;
 use pb_net::Net;
 use std::alloc::Global;
 
-/// The most ticks of each bridge until convergence.
-const MOST_TICKS: u32 = 200;
-
-/// Drives the network to convergence if `settles` is true, and appends the result.
+/// Drives the network to convergence within these ticks of each bridge, if any, and appends the result.
 pub(crate) fn begin(
     alloc: Global,
     out: &mut String,
     plan: &Plan,
     net: &mut Net,
-    settles: bool,
+    settle: Option<u32>,
 ) -> Result<(), CommandFault>
     requires sound { IsSound plan.now }
     requires plan { net.old.plan ≡ plan.now }
     ensures plan { net.new.plan ≡ plan.now }
     ensures ok { OnOk result ((text : List ℕ) × (string_bytes out.new ≡ string_bytes out.old ++ text)
-        × HasBegun settles net.old net.new text) }
+        × HasBegun settle net.old net.new text) }
 {
-    if !settles {
+    let Some(ticks) = settle else {
         return Ok(());
-    }
-    let rest = rests(alloc, net, plan, MOST_TICKS)?;
+    };
+    let rest = rests(alloc, net, plan, ticks)?;
     Ok(put_rest(out, rest)?)
 }

@@ -110,7 +110,7 @@ pub(crate) fn put_round(
     let Some(frame) = round else {
         return Ok(());
     };
-    out.push_str("goes round over")?;
+    out.push_str("loops over")?;
     put_all_passed(out, plan, rec, frame)?;
     writeln!(out, "; ended after 1000 events")?;
     Ok(())

@@ -136,10 +136,10 @@ fn put_where(out: &mut String, names: &str) -> Result<(), Memory>
     ensures { OnOk result (string_bytes out.new ≡ string_bytes out.old ++ left_text names.now) }
 {
     if names.is_empty() {
-        out.push_str("left nowhere")?;
+        out.push_str("not delivered")?;
         return Ok(());
     }
-    write!(out, "left at{names}")?;
+    write!(out, "delivered at{names}")?;
     Ok(())
 }
 

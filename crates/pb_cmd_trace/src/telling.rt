@@ -1,8 +1,8 @@
 //! The lines of a frame's steps.
 
 ghost use Rattle.std.specs.Prelude.{◌≡◌, ◌++◌, string_bytes, OnOk};
-ghost use Rattle.pb_cmd_trace.specs.Tellings.{delivery_line, direction_word, entry_line, hops_of, indent, lane_words};
-ghost use Rattle.pb_cmd_trace.specs.Tellings.{put_on_words, receiving_line, sending_words, spaces, tag_by, tag_words};
+ghost use Rattle.pb_cmd_trace.specs.Tellings.{added_word, delivery_line, direction_word, entry_line, hops_of, indent};
+ghost use Rattle.pb_cmd_trace.specs.Tellings.{lane_words, receiving_line, sending_words, spaces, tag_by, tag_words};
 ghost use Rattle.pb_cmd_trace.specs.Tellings.{taking_line, told, transmission_line};
 
 use crate::names::neighbour;
@@ -52,10 +52,10 @@ fn put_indent(out: &mut String, step: &Step) -> Result<(), Memory>
 }
 
 /// Returns whether the tag was added by this bridge, as text: the first bridge adds it.
-fn put_on_words(hops: u32) -> &'static str
-    ensures { result.now ≡ put_on_words hops }
+fn added_word(hops: u32) -> &'static str
+    ensures { result.now ≡ added_word hops }
 {
-    if hops == 1 { " put on" } else { "" }
+    if hops == 1 { " added" } else { "" }
 }
 
 /// Appends the tag of a frame that is sent to another bridge.
@@ -67,7 +67,7 @@ fn put_tag(alloc: Global, out: &mut String, item: &Item) -> Result<(), Memory>
         return Ok(());
     }
     let tag = tag_text(alloc, wire)?;
-    let word = put_on_words(item.hops);
+    let word = added_word(item.hops);
     write!(out, ", tag {tag}{word}")?;
     Ok(())
 }
@@ -89,7 +89,7 @@ fn put_tag_of(
     match customer_at(plan, bridge, port) {
         None => put_tag(alloc, out, item),
         Some(_) if item.hops > 1 => {
-            out.push_str(", tag taken off")?;
+            out.push_str(", tag removed")?;
             Ok(())
         }
         Some(_) => Ok(()),

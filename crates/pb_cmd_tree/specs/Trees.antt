@@ -1,9 +1,10 @@
--- The command: ports are disabled, the bridges converge, and the trees are printed.
+-- The command: links, bridges and ports are disabled, the bridges converge, and the trees are printed.
 use Rattle.std.specs.Prelude.{ℕ, List, Some, None, Option}
 use Rattle.std.specs.Io.KnownBytes.{Appends, Keeps}
 use Rattle.std.specs.Global.{Global}
 use Rattle.std.specs.declared.string.String.{String}
-use Rattle.pb_converge.specs.Falls.{HaveFallen, LacksEnd}
+use Rattle.pb_converge.specs.Falls.{HaveFallen, IsRefused}
+use Rattle.pb_converge.specs.declared.falling.DownFault.{DownFault}
 use Rattle.pb_lan.specs.declared.plan.Plan.{Plan}
 use Rattle.pb_net.specs.Answers.{NetView}
 use Rattle.pb_report.specs.PlanFiles.{IsToldBy}
@@ -12,7 +13,7 @@ use Rattle.pb_converge.specs.Drives.{HasRested}
 use Rattle.pb_converge.specs.declared.rest.Rest.{Rest}
 use Rattle.pb_cmd_tree.specs.TreeTexts.{IsTreeText}
 use Rattle.pb_cmd_tree.specs.declared.end.TreeEnd.{TreeEnd}
-use Rattle.pb_cmd_tree.specs.declared.end.TreeEnd.TheVariants.{Told, Refused, NoPort}
+use Rattle.pb_cmd_tree.specs.declared.end.TreeEnd.TheVariants.{Told, Refused, NoDown}
 
 -- each bridge ticks at most so many times, and the text has the trees at the end
 pub record AreTreesFrom (plan : Plan) (ticks : ℕ) (fallen : NetView) (text : List ℕ) : Type 0 where
@@ -21,24 +22,24 @@ pub record AreTreesFrom (plan : Plan) (ticks : ℕ) (fallen : NetView) (text : L
   pub rested : HasRested ticks 1000000000 rest fallen last
   pub trees : IsTreeText plan last.rec rest text
 
--- the named ports are disabled first
+-- what the names disable is disabled first
 pub record AreTrees (plan : Plan) (downs : List (String Global)) (ticks : ℕ) (text : List ℕ) : Type 0 where
   pub fallen : NetView
   pub falls : HaveFallen plan downs fallen
   pub trees : AreTreesFrom plan ticks fallen text
 
--- the text to print, or the index of the argument that names no end of a link
-abbrev pub ReturnsTrees : Plan → List (String Global) → ℕ → Option ℕ → List ℕ → Type 0
+-- the text to print, or why a name is refused
+abbrev pub ReturnsTrees : Plan → List (String Global) → ℕ → Option DownFault → List ℕ → Type 0
 ReturnsTrees plan downs ticks None text = AreTrees plan downs ticks text
-ReturnsTrees plan downs ticks (Some index) text = LacksEnd plan downs index
+ReturnsTrees plan downs ticks (Some fault) text = IsRefused plan downs fault
 
--- the trees were printed after the earlier output; or an argument names no end of a link, and nothing was printed
-abbrev pub HasPrinted : Plan → List (String Global) → ℕ → Option ℕ → Option (List ℕ) → Option (List ℕ) → Type 0
+-- the trees were printed after the earlier output; or a name is refused, and nothing was printed
+abbrev pub HasPrinted : Plan → List (String Global) → ℕ → Option DownFault → Option (List ℕ) → Option (List ℕ) → Type 0
 HasPrinted plan downs ticks None before after = (text : List ℕ) × Appends before after text × AreTrees plan downs ticks text
-HasPrinted plan downs ticks (Some index) before after = LacksEnd plan downs index × Keeps before after
+HasPrinted plan downs ticks (Some fault) before after = IsRefused plan downs fault × Keeps before after
 
 -- what the command has printed: the trees of the plan in the file, or the rule that the file breaks
 abbrev pub HasTold : List ℕ → List (String Global) → ℕ → TreeEnd → Option (List ℕ) → Option (List ℕ) → Type 0
 HasTold file downs ticks Told before after = (plan : Plan) × IsToldBy file plan × HasPrinted plan downs ticks None before after
 HasTold file downs ticks Refused before after = PrintsRefusal file before after
-HasTold file downs ticks (NoPort index) before after = (plan : Plan) × IsToldBy file plan × HasPrinted plan downs ticks (Some index) before after
+HasTold file downs ticks (NoDown fault) before after = (plan : Plan) × IsToldBy file plan × HasPrinted plan downs ticks (Some fault) before after

@@ -1,5 +1,7 @@
 //! How the command ends.
 
+use pb_converge::DownFault;
+
 /// The result of the command, if it ended without a fault.
 #[derive(Clone, Copy, Debug, PartialEq, Eq)]
 pub enum TreeEnd {
@@ -7,6 +9,6 @@ pub enum TreeEnd {
     Told,
     /// The file is not a valid plan, and the line `plan: N WORD` was printed.
     Refused,
-    /// The argument at this index, from 0, names no port to another bridge. Nothing was printed.
-    NoPort(usize),
+    /// A name to disable is unknown or ambiguous. Nothing was printed.
+    NoDown(DownFault),
 }

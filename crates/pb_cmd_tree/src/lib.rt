@@ -11,4 +11,5 @@ mod services;
 mod tree;
 
 pub use end::TreeEnd;
+pub use pb_converge::DownFault;
 pub use tree::run_tree;

@@ -13,7 +13,7 @@ use crate::end::TreeEnd;
 use crate::given::put_given;
 use crate::protocol::put_protocol;
 use crate::services::put_services;
-use pb_converge::{Rest, falls, fresh, put_rest, rests, shape_of};
+use pb_converge::{DownFault, Rest, falls, fresh, put_rest, rests, shape_of};
 use pb_frame::Memory;
 use pb_lan::{Plan, Record, Spanning};
 use pb_messages::{CommandFault, write_whole};
@@ -86,22 +86,21 @@ fn put_rested(
     Ok(put_trees(alloc, out, plan, net, rest)?)
 }
 
-/// Disables the ports that `downs` names, and appends the trees. Returns the index of the first argument that names no
-/// end of a link; the text is unchanged then.
+/// Disables what `downs` names, and appends the trees. Returns why a name is refused; the text is unchanged then.
 fn put_trees_with_downs(
     alloc: Global,
     out: &mut String,
     plan: &Plan,
     downs: &[String],
     ticks: u32,
-) -> Result<Option<usize>, CommandFault>
+) -> Result<Option<DownFault>, CommandFault>
     requires { IsSound plan.now }
     ensures { IfOk result (λ lacking. (text : List ℕ) × (string_bytes out.new ≡ string_bytes out.old ++ text)
         × ReturnsTrees plan.now downs.now ticks lacking text) }
 {
     let mut net = fresh(alloc, plan)?;
     match falls(alloc, &mut net, plan, downs)? {
-        Some(index) => Ok(Some(index)),
+        Some(fault) => Ok(Some(fault)),
         None => {
             put_rested(alloc, out, plan, net, ticks)?;
             Ok(None)
@@ -109,15 +108,15 @@ fn put_trees_with_downs(
     }
 }
 
-/// Prints the trees of a plan, after it disables the ports that `downs` names. Returns the index of the first argument
-/// that names no end of a link; nothing is printed then.
+/// Prints the trees of a plan, after it disables what `downs` names. Returns why a name is refused; nothing is printed
+/// then.
 fn print_trees<W: Write>(
     alloc: Global,
     plan: &Plan,
     downs: &[String],
     ticks: u32,
     writer: &mut W,
-) -> Result<Option<usize>, CommandFault>
+) -> Result<Option<DownFault>, CommandFault>
     requires { IsSound plan.now }
     ensures ok { IfOk result (λ lacking.
         HasPrinted plan.now downs.now ticks lacking (W.contents writer.old) (W.contents writer.new)) }
@@ -132,11 +131,10 @@ fn print_trees<W: Write>(
     Ok(None)
 }
 
-/// Reads a plan file, disables ports, drives the bridges to convergence, and prints the trees.
+/// Reads a plan file, disables links, bridges and ports, drives the bridges to convergence, and prints the trees.
 ///
-/// Each of `downs` names a port to another bridge by `BRIDGE:PORT`: the name of the bridge and its local port. That
-/// end of its link is disabled; the bridge at the other end gets no sign of it. Each bridge takes at most `ticks` ticks
-/// (seconds).
+/// Each of `downs` names a link, a bridge, or a port to another bridge as `BRIDGE:PORT`, as [`falls`] describes. Each
+/// bridge takes at most `ticks` ticks (seconds).
 ///
 /// If the bridges run the rapid spanning tree (IEEE 802.1D-2004 clause 17), the lines are
 ///
@@ -152,7 +150,8 @@ fn print_trees<W: Write>(
 /// service without a loop and each bridge below a root of its tree.
 ///
 /// If the file is not a valid plan, the line `plan: N WORD` is printed, as `check` prints it, and `Refused` is
-/// returned. This includes `plan: 11 memory`, if an allocation failed while the file was read.
+/// returned. This includes `plan: 11 memory`, if an allocation failed while the file was read. `NoDown` is returned if
+/// a name of `downs` is unknown or ambiguous, and nothing is printed then.
 ///
 /// # Errors
 ///
@@ -173,7 +172,7 @@ pub fn run_tree<W: Write>(
     match read_plan(alloc, file) {
         Ok((plan, _ports)) => match print_trees(alloc, &plan, downs, ticks, writer)? {
             None => Ok(TreeEnd::Told),
-            Some(index) => Ok(TreeEnd::NoPort(index)),
+            Some(fault) => Ok(TreeEnd::NoDown(fault)),
         },
         Err(fault) => {
             write_refusal(alloc, &fault, writer)?;

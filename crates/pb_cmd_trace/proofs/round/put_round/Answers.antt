@@ -9,7 +9,7 @@ returns c =
     let old = string_bytes c.args.out.now in
     let plan = c.args.plan.now in
     let rec = c.args.rec.now in
-    join_three old (codes "goes round over") (passed_words plan rec c.in-Some.frame)
+    join_three old (codes "loops over") (passed_words plan rec c.in-Some.frame)
     (codes "; ended after 1000 events" ++ 10 ∷ [])
     (string_bytes c.push_str.new.self) (string_bytes c.put_all_passed.new.out) (string_bytes c.writeln.new.self)
     c.in_ok-push_str.ensures.bytes c.in_ok-put_all_passed.ensures c.in_ok-writeln.ensures.bytes
