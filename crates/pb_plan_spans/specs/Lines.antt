@@ -63,3 +63,7 @@ is_quoted (b ∷ line) =
 -- headers can be recognized line by line: no text spans several lines, and no key or header is quoted
 abbrev pub is_plain : List ℕ → Bool
 is_plain file = not (has_text file) && not (list_any is_quoted (lines_of file))
+
+-- the line of the header of a word after so many earlier ones, and none if headers can't be recognized line by line
+abbrev pub table_line : List ℕ → List ℕ → ℕ → Option ℕ
+table_line file word others = if is_plain file then header_line word others (lines_of file) else None

@@ -10,5 +10,5 @@ mod locate;
 mod place;
 mod spot;
 
-pub use locate::{refused_at, spot_of};
+pub use locate::{refused_at, spot_of, table_line};
 pub use spot::Spot;

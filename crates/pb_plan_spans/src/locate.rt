@@ -1,6 +1,7 @@
 //! The place at which a plan file breaks a rule.
 
 ghost use Rattle.std.specs.Prelude.{◌≡◌, IfOk};
+ghost use Rattle.pb_plan_spans.specs.Lines.{table_line};
 ghost use Rattle.pb_plan_spans.specs.Spots.{key_spot, IsUtf8Spot, IsTomlSpot, IsSpotOf, TellsSpot};
 
 use crate::header::{header_line, is_plain};
@@ -32,6 +33,18 @@ fn toml_spot(alloc: Global, file: &[u8]) -> Option<Spot>
             Some(octet_spot(file, span.start))
         }
     }
+}
+
+/// Returns the line of a file, from 1, with the header of a table, as `[network]` or `[[bridge]]`, after so many
+/// earlier headers of the same word. Returns `None` if the file has too few such headers, or has texts of several lines
+/// or quoted keys.
+pub fn table_line(file: &[u8], word: &[u8], earlier: usize) -> Option<usize>
+    ensures { result ≡ table_line file.now word.now earlier }
+{
+    if !is_plain(file) {
+        return None;
+    }
+    header_line(file, word, earlier)
 }
 
 /// Returns the line of the header of a key's table, by the path of the key.

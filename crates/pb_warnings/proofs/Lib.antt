@@ -1,0 +1,4 @@
+pub mod PathLemmas
+pub mod HopLemmas
+pub mod RuleLemmas
+pub mod FindingLemmas

@@ -1,0 +1,6 @@
+pub mod Links
+pub mod Paths
+pub mod Hops
+pub mod Marks
+pub mod Rules
+pub mod Findings

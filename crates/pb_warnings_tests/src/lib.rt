@@ -1,0 +1,5 @@
+//! The tests of pb_warnings.
+#![tactic(auto)]
+
+#[cfg(test)]
+mod tests;
