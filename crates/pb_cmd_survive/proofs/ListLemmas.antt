@@ -71,19 +71,23 @@ pub text_end : {X : Type 0} (f : X → List ℕ) (start now : List ℕ) (these a
     → now ≡ start ++ flat_map f all
 text_end f start now these all e h = sym (append-nil now) ∙ ap (λ z. now ++ flat_map f z) (sym e) ∙ h
 
--- a text of five parts after another, as it is written and as it is defined
-pub rejoin : (old a n b l e : List ℕ) → ((old ++ (a ++ (n ++ b))) ++ l) ++ e ≡ old ++ ((((a ++ n) ++ b) ++ l) ++ e)
-rejoin old a n b l e = simp append_assoc
-
 -- five texts after another, as they are written and as they are defined
 pub rejoin_five : (old a b c d e : List ℕ)
     → ((((old ++ a) ++ b) ++ c) ++ d) ++ e ≡ old ++ ((((a ++ b) ++ c) ++ d) ++ e)
 rejoin_five old a b c d e = simp append_assoc
 
--- the same of six
-pub rejoin_six : (old a b c d e f : List ℕ)
-    → (((((old ++ a) ++ b) ++ c) ++ d) ++ e) ++ f ≡ old ++ (((((a ++ b) ++ c) ++ d) ++ e) ++ f)
-rejoin_six old a b c d e f = simp append_assoc
+-- a text of five parts after another, as it is written and as it is defined
+pub rejoin : (old a n b l e : List ℕ) → ((old ++ (a ++ (n ++ b))) ++ l) ++ e ≡ old ++ ((((a ++ n) ++ b) ++ l) ++ e)
+rejoin old a n b l e = simp append_assoc
+
+-- seven texts after another, as they are written and as they are defined
+pub rejoin_seven : (old a b c d e f g : List ℕ)
+    → ((((((old ++ a) ++ b) ++ c) ++ d) ++ e) ++ f) ++ g ≡ old ++ ((((((a ++ b) ++ c) ++ d) ++ e) ++ f) ++ g)
+rejoin_seven old a b c d e f g = simp append_assoc
+
+-- the same of three
+pub rejoin_three : (old a b c : List ℕ) → ((old ++ a) ++ b) ++ c ≡ old ++ ((a ++ b) ++ c)
+rejoin_three old a b c = simp append_assoc
 
 -- results that are all Ok have the relation with their arguments
 zip_oks : {A B : Type 0} (E : Type 0) (R : A → B → Type 0) (xs : List A) (ys : List B)

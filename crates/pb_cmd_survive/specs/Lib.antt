@@ -4,6 +4,9 @@ pub mod Groups
 pub mod Views
 pub mod Impacts
 pub mod Verdicts
+pub mod Acceptances
+pub mod Judgements
+pub mod AcceptedTexts
 pub mod Reports
 pub mod Scopes
 pub mod Survivals

@@ -7,13 +7,24 @@ use Rattle.pb_names.specs.Names.{bridge_name, link_name, port_name, service_name
 use Rattle.pb_converge.specs.declared.rest.Rest.{Rest}
 use Rattle.pb_converge.specs.declared.rest.Rest.TheVariants.{Given, Settled, Unsettled}
 use Rattle.pb_cmd_survive.specs.Failures.{is_link, is_bridge, is_pair}
-use Rattle.pb_cmd_survive.specs.Verdicts.{is_settled, are_forests, is_split, is_healthy_service, is_healthy, is_lost, parts_view, parts, is_quiet, survives}
+use Rattle.pb_cmd_survive.specs.Verdicts.{is_settled, are_forests, is_split, is_healthy_service, is_healthy, is_lost, parts_view, parts, is_quiet}
+use Rattle.pb_cmd_survive.specs.Judgements.{harms, is_tolerable, is_excused, survives}
+use Rattle.pb_cmd_survive.specs.AcceptedTexts.{stale_text}
+use Rattle.pb_accept.specs.declared.acceptance.Acceptance.{Acceptance}
 use Rattle.pb_cmd_survive.specs.declared.criteria.Criteria.{Criteria}
 use Rattle.pb_cmd_survive.specs.declared.failure.Failure.{Failure}
 use Rattle.pb_cmd_survive.specs.declared.failure.Failure.TheVariants.{Nothing, Link, Pair, Bridge}
 use Rattle.pb_cmd_survive.specs.declared.impact.Impact.{Impact}
 use Rattle.pb_cmd_survive.specs.declared.sites.Site.{Site}
 use Rattle.pb_cmd_survive.specs.declared.view.View.{View}
+
+-- the ending of a noun after a number
+abbrev pub plural : ℕ → List ℕ
+plural number = if number == 1 then [] else codes "s"
+
+-- a number and a noun, which has an s unless the number is 1
+abbrev pub counted : ℕ → List ℕ → List ℕ
+counted number noun = decimal number ++ codes " " ++ noun ++ plural number
 
 -- what is down
 abbrev pub failure_text : Plan → Failure → List ℕ
@@ -112,7 +123,7 @@ reasons_text plan v = split_line plan v ++ loop_reason_line plan v ++ few_line p
 abbrev pub unhealthy_text : List View → List ℕ
 unhealthy_text views =
     if length views == 0 then codes "no service"
-    else decimal (count_by (λ v. not (is_healthy_service v)) views) ++ codes " services"
+    else counted (count_by (λ v. not (is_healthy_service v)) views) (codes "service")
 
 -- a text, if the bridges do not converge
 abbrev pub unsettled_text : Impact → List ℕ → List ℕ
@@ -133,20 +144,26 @@ abbrev pub health_text : Plan → Impact → List ℕ
 health_text plan base =
     unsettled_text base (codes "bridges do not converge" ++ 10 ∷ []) ++ flat_map (reasons_text plan) base.views ++ health_line base
 
+-- the word before a failure that is accepted
+abbrev pub mark_text : Criteria → List Acceptance → Impact → Impact → List ℕ
+mark_text criteria acceptances base o = if is_tolerable criteria acceptances base o then codes "accepted " else []
+
 -- the lines of a failure, if it does harm
-abbrev pub impact_text : Plan → Criteria → Impact → Impact → List ℕ
-impact_text plan criteria base o =
-    if is_quiet criteria base o then [] else head_line plan o ++ flat_map (view_text plan criteria) (zip base.views o.views)
+abbrev pub impact_text : Plan → Criteria → List Acceptance → Impact → Impact → List ℕ
+impact_text plan criteria acceptances base o =
+    if is_quiet criteria base o then []
+    else mark_text criteria acceptances base o ++ head_line plan o ++ flat_map (view_text plan criteria) (zip base.views o.views)
 
--- the number of failures that were analysed, by kind
+-- the number of analysed failures of a kind, if there are any
 abbrev pub kind_text : ℕ → List ℕ → List ℕ
-kind_text count what = if count == 0 then [] else codes ", " ++ decimal count ++ codes " " ++ what
+kind_text count noun = if count == 0 then [] else codes ", " ++ counted count noun
 
+-- the number of analysed failures, by kind
 abbrev pub checked_line : List Impact → List ℕ
 checked_line impacts =
-    codes "checked " ++ decimal (count_by (λ o. is_link o.failure) impacts) ++ codes " links"
-    ++ kind_text (count_by (λ o. is_bridge o.failure) impacts) (codes "bridges")
-    ++ kind_text (count_by (λ o. is_pair o.failure) impacts) (codes "pairs") ++ 10 ∷ []
+    codes "checked " ++ counted (count_by (λ o. is_link o.failure) impacts) (codes "link")
+    ++ kind_text (count_by (λ o. is_bridge o.failure) impacts) (codes "bridge")
+    ++ kind_text (count_by (λ o. is_pair o.failure) impacts) (codes "pair") ++ 10 ∷ []
 
 -- the ticks of each bridge until they converged
 abbrev pub ticks_of : Rest → ℕ
@@ -165,10 +182,11 @@ has_converged Given = false
 has_converged (Settled ticks) = true
 has_converged (Unsettled ticks) = false
 
--- the most ticks until bridges converged, if they did after some failure
+-- the line of the most ticks until bridges converged
 abbrev pub ticks_line : ℕ → List ℕ
-ticks_line ticks = codes "converges within " ++ decimal ticks ++ codes " ticks" ++ 10 ∷ []
+ticks_line ticks = codes "converges within " ++ counted ticks (codes "tick") ++ 10 ∷ []
 
+-- that line, if they did after some failure
 abbrev pub converge_line : List Impact → List ℕ
 converge_line impacts = if list_any (λ o. has_converged o.rest) impacts then ticks_line (slowest impacts) else []
 
@@ -185,9 +203,13 @@ abbrev pub sparing_line : Criteria → Impact → List Impact → List ℕ
 sparing_line criteria base impacts =
     count_line (count_by (λ o. not (parts criteria base o)) impacts) (length impacts) (codes "disconnect nothing")
 
-abbrev pub parting_count_line : Criteria → Impact → List Impact → List ℕ
-parting_count_line criteria base impacts =
-    count_line (count_by (parts criteria base) impacts) (length impacts) (codes "disconnect a service")
+abbrev pub excused_line : Criteria → List Acceptance → Impact → List Impact → List ℕ
+excused_line criteria acceptances base impacts =
+    count_line (count_by (is_excused criteria acceptances base) impacts) (length impacts) (codes "are accepted")
+
+abbrev pub parting_count_line : Criteria → List Acceptance → Impact → List Impact → List ℕ
+parting_count_line criteria acceptances base impacts =
+    count_line (count_by (harms criteria acceptances base) impacts) (length impacts) (codes "disconnect a service")
 
 abbrev pub looping_line : List Impact → List ℕ
 looping_line impacts =
@@ -198,19 +220,35 @@ unsettled_line impacts =
     count_line (count_by (λ o. not (is_settled o.rest)) impacts) (length impacts) (codes "do not converge")
 
 -- what was checked, and how many failures do what
-abbrev pub totals_text : Criteria → Impact → List Impact → List ℕ
-totals_text criteria base impacts =
+abbrev pub totals_text : Criteria → List Acceptance → Impact → List Impact → List ℕ
+totals_text criteria acceptances base impacts =
     checked_line impacts ++ sparing_line criteria base impacts ++ converge_line impacts
-    ++ parting_count_line criteria base impacts ++ looping_line impacts ++ unsettled_line impacts
+    ++ excused_line criteria acceptances base impacts ++ parting_count_line criteria acceptances base impacts
+    ++ looping_line impacts ++ unsettled_line impacts
+
+-- that the network survives every failure, or every one that is not accepted
+abbrev pub surviving_line : Bool → List ℕ
+surviving_line excused =
+    if excused then codes "survives every failure that is not accepted" ++ 10 ∷ []
+    else codes "survives every single failure" ++ 10 ∷ []
 
 -- the last line, if the counts are not the last ones
-abbrev pub last_line : Impact → Bool → List ℕ
-last_line base survived =
-    if survived then codes "survives every single failure" ++ 10 ∷ []
-    else (if is_healthy base then [] else unhealthy_line base)
+abbrev pub last_line : Impact → Bool → Bool → List ℕ
+last_line base survived excused =
+    if survived then surviving_line excused else (if is_healthy base then [] else unhealthy_line base)
+
+-- some failure is accepted
+abbrev pub any_excused : Criteria → List Acceptance → Impact → List Impact → Bool
+any_excused criteria acceptances base impacts = list_any (is_excused criteria acceptances base) impacts
+
+-- the totals, the acceptances that are not needed, and the last line
+abbrev pub ending_text : Plan → Criteria → List Acceptance → Impact → List Impact → List ℕ
+ending_text plan criteria acceptances base impacts =
+    totals_text criteria acceptances base impacts ++ stale_text plan criteria acceptances base impacts
+    ++ last_line base (survives criteria acceptances base impacts) (any_excused criteria acceptances base impacts)
 
 -- the report on a network with nothing down, and under failures
-abbrev pub report_text : Plan → Criteria → Impact → List Impact → List ℕ
-report_text plan criteria base impacts =
-    whole_text plan base ++ health_text plan base ++ flat_map (impact_text plan criteria base) impacts
-    ++ totals_text criteria base impacts ++ last_line base (survives criteria base impacts)
+abbrev pub report_text : Plan → Criteria → List Acceptance → Impact → List Impact → List ℕ
+report_text plan criteria acceptances base impacts =
+    whole_text plan base ++ health_text plan base ++ flat_map (impact_text plan criteria acceptances base) impacts
+    ++ ending_text plan criteria acceptances base impacts

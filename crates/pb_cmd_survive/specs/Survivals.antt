@@ -1,5 +1,5 @@
 -- The text that `survive` prints for a plan file.
-use Rattle.std.specs.Prelude.{◌≡◌, ◌⊎◌, ℕ, Bool, List, true, false, if◌then◌else◌}
+use Rattle.std.specs.Prelude.{◌≡◌, ◌⊎◌, ◌&&◌, ℕ, Bool, List, true, false, if◌then◌else◌}
 use Rattle.pb_lan.specs.declared.plan.Plan.{Plan}
 use Rattle.pb_report.specs.Refusals.{IsRefusalText}
 use Rattle.pb_service.specs.PlanFiles.{Tells, IsPlanOf}
@@ -8,7 +8,8 @@ use Rattle.pb_cmd_survive.specs.Failures.{all_failures}
 use Rattle.pb_cmd_survive.specs.Impacts.{IsImpact, AreImpacts}
 use Rattle.pb_cmd_survive.specs.Reports.{report_text}
 use Rattle.pb_cmd_survive.specs.Scopes.{services_of, from_of, is_found, no_such_line}
-use Rattle.pb_cmd_survive.specs.Verdicts.{survives}
+use Rattle.pb_cmd_survive.specs.AcceptedTexts.{accept_tables}
+use Rattle.pb_cmd_survive.specs.Judgements.{survives, are_current}
 use Rattle.pb_cmd_survive.specs.declared.criteria.Criteria.{Criteria}
 use Rattle.pb_cmd_survive.specs.declared.failure.Failure.TheVariants.{Nothing}
 use Rattle.pb_cmd_survive.specs.declared.impact.Impact.{Impact}
@@ -18,9 +19,20 @@ use Rattle.pb_cmd_survive.specs.declared.survive.Asked.{Asked}
 abbrev pub most_events : ℕ
 most_events = 1000000000
 
--- the exit status: 0 if the network survives, and otherwise 4
+-- the exit status: 0 if the network passes, and otherwise 4
 abbrev pub status_of : Bool → ℕ
-status_of survived = if survived then 0 else 4
+status_of passed = if passed then 0 else 4
+
+-- the network passes: it survives, and no acceptance is stale if that is asked for
+abbrev pub passes : Plan → Asked → Criteria → Impact → List Impact → Bool
+passes plan asked criteria base impacts =
+    survives criteria asked.accepted.now base impacts && are_current plan criteria asked.strict asked.accepted.now base impacts
+
+-- the report, or in its place the tables that accept what was found
+abbrev pub said_text : Plan → Asked → Criteria → Impact → List Impact → List ℕ
+said_text plan asked criteria base impacts =
+    if asked.as_tables then accept_tables plan criteria base impacts
+    else report_text plan criteria asked.accepted.now base impacts
 
 -- what counts as disconnected, by the options
 abbrev pub criteria_of : Plan → Asked → Criteria
@@ -33,8 +45,8 @@ pub record IsReport (plan : Plan) (asked : Asked) (status : ℕ) (text : List �
   pub is_base : IsImpact plan (services_of plan asked.scope) asked.ticks most_events Nothing base
   pub impacts : List Impact
   pub are_impacts : AreImpacts plan (services_of plan asked.scope) asked.ticks most_events (all_failures plan asked.kinds) impacts
-  pub text_is : text ≡ report_text plan (criteria_of plan asked) base impacts
-  pub status_is : status ≡ status_of (survives (criteria_of plan asked) base impacts)
+  pub text_is : text ≡ said_text plan asked (criteria_of plan asked) base impacts
+  pub status_is : status ≡ status_of (passes plan asked (criteria_of plan asked) base impacts)
 
 -- the plan lacks the service or port of the scope
 pub record IsLacking (plan : Plan) (asked : Asked) (status : ℕ) (text : List ℕ) : Type 0 where

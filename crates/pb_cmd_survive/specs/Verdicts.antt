@@ -1,5 +1,5 @@
 -- Whether a network is healthy with nothing down, and whether it survives failures.
-use Rattle.std.specs.Prelude.{ℕ, Bool, true, false, List, Option, Some, None, length, nat_lt, ◌==◌, ◌&&◌, ◌||◌, not, count_by}
+use Rattle.std.specs.Prelude.{ℕ, Bool, true, false, List, Option, Some, None, length, nat_lt, ◌==◌, ◌&&◌, ◌||◌, not}
 use Rattle.std.specs.List.{list_any, list_all, zip}
 use Rattle.pb_converge.specs.declared.rest.Rest.{Rest}
 use Rattle.pb_converge.specs.declared.rest.Rest.TheVariants.{Given, Settled, Unsettled}
@@ -63,7 +63,3 @@ parts criteria base o = list_any (parts_view criteria) (zip base.views o.views)
 -- the failure is harmless: the bridges converge, no service has a loop, and none is disconnected
 abbrev pub is_quiet : Criteria → Impact → Impact → Bool
 is_quiet criteria base o = is_settled o.rest && are_forests o.views && not (parts criteria base o)
-
--- the network survives: it is healthy with nothing down, and each failure is harmless
-abbrev pub survives : Criteria → Impact → List Impact → Bool
-survives criteria base impacts = is_healthy base && list_all (is_quiet criteria base) impacts

@@ -6,6 +6,7 @@ ghost use Rattle.pb_cmd_survive.specs.Reports.{unsettled_text, unhealthy_text, u
 ghost use Rattle.pb_cmd_survive.specs.Reports.{health_line, health_text};
 ghost use Rattle.pb_cmd_survive.specs.Verdicts.{is_healthy_service};
 
+use crate::counted::put_counted;
 use crate::impact::Impact;
 use crate::verdict::{is_healthy, is_healthy_service, is_settled, is_split};
 use crate::view::View;
@@ -81,7 +82,7 @@ fn put_services(out: &mut String, views: &[View]) -> Result<(), Memory>
         out.push_str("no service")?;
         return Ok(());
     }
-    write!(out, "{} services", count_unhealthy(views))?;
+    put_counted(out, count_unhealthy(views), "service")?;
     Ok(())
 }
 

@@ -4,11 +4,14 @@
 //! Begin reading at `survive.rt`, [`run_survive`], then [`look_at`] and [`put_report`].
 #![tactic(auto)]
 
+mod acceptances;
+mod counted;
 mod criteria;
 mod drive;
 mod failure;
 mod health;
 mod impact;
+mod judgement;
 mod look;
 mod marks;
 mod parting;
@@ -16,7 +19,9 @@ mod progress;
 mod report;
 mod scope;
 mod sites;
+mod stale;
 mod survive;
+mod tables;
 mod totals;
 mod verdict;
 mod view;
@@ -27,8 +32,10 @@ pub use failure::{Failure, Kinds, failures};
 pub use impact::Impact;
 pub use look::{look_at, look_at_all};
 pub use progress::FailureProgress;
-pub use report::put_report;
+pub use report::{put_failure, put_report};
 pub use scope::Scope;
 pub use sites::{Site, groups};
 pub use survive::{Asked, run_survive};
+pub use totals::{has_converged, ticks_of};
+pub use verdict::is_settled;
 pub use view::{View, views};

@@ -6,25 +6,32 @@ ghost use Rattle.std.specs.List.{zip};
 ghost use Rattle.pb_cmd_survive.specs.Reports.{failure_text, rest_text, forest_text, head_line, member_text};
 ghost use Rattle.pb_cmd_survive.specs.Reports.{group_text, later_text, groups_text, service_line, loop_line, lost_text};
 ghost use Rattle.pb_cmd_survive.specs.Reports.{cut_off_line, parting_line, view_text, whole_text, impact_text, no_site};
-ghost use Rattle.pb_cmd_survive.specs.Reports.{report_text};
-ghost use Rattle.pb_cmd_survive.specs.Verdicts.{survives};
+ghost use Rattle.pb_cmd_survive.specs.Reports.{report_text, mark_text, any_excused, ending_text};
+ghost use Rattle.pb_cmd_survive.specs.Judgements.{survives};
 
 use crate::criteria::Criteria;
 use crate::failure::Failure;
 use crate::health::put_health;
 use crate::impact::Impact;
+use crate::judgement::{is_excused, is_tolerable, survives};
 use crate::parting::{is_lost, parts_view};
 use crate::sites::Site;
+use crate::stale::put_stale;
 use crate::totals::{put_last, put_totals};
-use crate::verdict::{are_forests, is_quiet, survives};
+use crate::verdict::{are_forests, is_quiet};
 use crate::view::View;
+use pb_accept::Acceptance;
 use pb_converge::Rest;
 use pb_frame::Memory;
 use pb_lan::Plan;
 use pb_names::{bridge_name, link_name, port_name, service_name};
 
 /// Appends what is down.
-fn put_failure(out: &mut String, plan: &Plan, failure: Failure) -> Result<(), Memory>
+///
+/// # Errors
+///
+/// `Memory` if an allocation failed.
+pub fn put_failure(out: &mut String, plan: &Plan, failure: Failure) -> Result<(), Memory>
     ensures { OnOk result (string_bytes out.new ≡ string_bytes out.old ++ failure_text plan.now failure) }
 {
     match failure {
@@ -258,20 +265,39 @@ fn put_whole(out: &mut String, plan: &Plan, impact: &Impact) -> Result<(), Memor
     Ok(())
 }
 
+/// Appends the word before a failure that is accepted.
+fn put_mark(
+    out: &mut String,
+    criteria: Criteria,
+    acceptances: &[Acceptance],
+    base: &Impact,
+    impact: &Impact,
+) -> Result<(), Memory>
+    ensures { OnOk result (string_bytes out.new ≡ string_bytes out.old
+        ++ mark_text criteria acceptances.now base.now impact.now) }
+{
+    if is_tolerable(criteria, acceptances, base, impact) {
+        out.push_str("accepted ")?;
+    }
+    Ok(())
+}
+
 /// Appends the impact of a failure, if the report shows it.
 fn put_impact(
     out: &mut String,
     plan: &Plan,
     criteria: Criteria,
+    acceptances: &[Acceptance],
     base: &Impact,
     impact: &Impact,
 ) -> Result<(), Memory>
     ensures { OnOk result (string_bytes out.new ≡ string_bytes out.old
-        ++ impact_text plan.now criteria base.now impact.now) }
+        ++ impact_text plan.now criteria acceptances.now base.now impact.now) }
 {
     if is_quiet(criteria, base, impact) {
         return Ok(());
     }
+    put_mark(out, criteria, acceptances, base, impact)?;
     put_head(out, plan, impact)?;
     put_views(
         out,
@@ -287,16 +313,52 @@ fn put_impacts(
     out: &mut String,
     plan: &Plan,
     criteria: Criteria,
+    acceptances: &[Acceptance],
     base: &Impact,
     impacts: &[Impact],
 ) -> Result<(), Memory>
     ensures { OnOk result (string_bytes out.new ≡ string_bytes out.old
-        ++ flat_map (impact_text plan.now criteria base.now) impacts.now) }
+        ++ flat_map (impact_text plan.now criteria acceptances.now base.now) impacts.now) }
 {
     for impact in impacts {
-        put_impact(out, plan, criteria, base, impact)?;
+        put_impact(out, plan, criteria, acceptances, base, impact)?;
     }
     Ok(())
+}
+
+/// Checks whether some failure is accepted.
+fn any_excused(
+    criteria: Criteria,
+    acceptances: &[Acceptance],
+    base: &Impact,
+    impacts: &[Impact],
+) -> bool
+    ensures { result ≡ any_excused criteria acceptances.now base.now impacts.now }
+{
+    impacts
+        .iter()
+        .any(|impact| is_excused(criteria, acceptances, base, impact))
+}
+
+/// Appends the totals, the acceptances that are not needed, and the last line. Returns whether the network survives.
+fn put_ending(
+    out: &mut String,
+    plan: &Plan,
+    criteria: Criteria,
+    acceptances: &[Acceptance],
+    base: &Impact,
+    impacts: &[Impact],
+) -> Result<bool, Memory>
+    ensures text { OnOk result (string_bytes out.new ≡ string_bytes out.old
+        ++ ending_text plan.now criteria acceptances.now base.now impacts.now) }
+    ensures survives { IfOk result (λ survived. survived ≡ survives criteria acceptances.now base.now impacts.now) }
+{
+    put_totals(out, criteria, acceptances, base, impacts)?;
+    put_stale(out, plan, criteria, acceptances, base, impacts)?;
+    let survived = survives(criteria, acceptances, base, impacts);
+    let excused = any_excused(criteria, acceptances, base, impacts);
+    put_last(out, base, survived, excused)?;
+    Ok(survived)
 }
 
 /// Appends the report on a network with nothing down and under failures. Returns whether the network survives.
@@ -304,10 +366,12 @@ fn put_impacts(
 /// First come the lines of the network with nothing down: whether the bridges converged and after how many ticks of
 /// each, whether the active links are a forest for each service, the groups of each service's customer ports, and
 /// whether it is healthy: the bridges converge, and each service has two ports or more, all connected, and no loop.
-/// Then each failure that does harm has the same lines, with the services that it disconnects. Last come the kinds of
-/// failures, the most ticks to convergence, and how many failures do which harm. The last line is the verdict. It says
-/// that the network survives only if it is healthy and no failure disconnects a service, leaves a loop, or keeps the
-/// bridges from converging. `criteria` has the ports that count as disconnected.
+/// Then each failure that does harm has the same lines, with the services that it disconnects. A failure of which
+/// `acceptances` accept each disconnection has the word `accepted` before them. Last come the kinds of failures, the
+/// most ticks to convergence, how many failures do which harm, and the acceptances that are stale or were not tried.
+/// The last line is the verdict. It says that the network survives only if it is healthy and no failure disconnects a
+/// service without acceptance, leaves a loop, or keeps the bridges from converging. `criteria` has the ports that count
+/// as disconnected.
 ///
 /// # Errors
 ///
@@ -316,18 +380,17 @@ pub fn put_report(
     out: &mut String,
     plan: &Plan,
     criteria: Criteria,
+    acceptances: &[Acceptance],
     base: &Impact,
     impacts: &[Impact],
 ) -> Result<bool, Memory>
     ensures text { OnOk result (string_bytes out.new ≡ string_bytes out.old
-        ++ report_text plan.now criteria base.now impacts.now) }
-    ensures survives { IfOk result (λ survived. survived ≡ survives criteria base.now impacts.now) }
+        ++ report_text plan.now criteria acceptances.now base.now impacts.now) }
+    ensures survives { IfOk result (λ survived. survived ≡ survives criteria acceptances.now base.now impacts.now) }
 {
     put_whole(out, plan, base)?;
     put_health(out, plan, base)?;
-    put_impacts(out, plan, criteria, base, impacts)?;
-    put_totals(out, criteria, base, impacts)?;
-    let survived = survives(criteria, base, impacts);
-    put_last(out, base, survived)?;
+    put_impacts(out, plan, criteria, acceptances, base, impacts)?;
+    let survived = put_ending(out, plan, criteria, acceptances, base, impacts)?;
     Ok(survived)
 }

@@ -1,20 +1,26 @@
 //! The command `survive`.
 
-ghost use Rattle.std.specs.Prelude.{◌≡◌, ◌≢◌, ◌⊎◌, ◌++◌, List, ℕ, string_bytes, IfOk, IfErr};
+ghost use Rattle.std.specs.Prelude.{◌≡◌, ◌≢◌, ◌⊎◌, ◌++◌, List, ℕ, string_bytes, IfOk, OnOk, IfErr};
 ghost use Rattle.std.specs.Io.KnownBytes.{Appends, Keeps};
 ghost use Rattle.pb_lan.specs.Plans.{IsSound};
 ghost use Rattle.pb_cmd_survive.specs.Scopes.{is_found};
 ghost use Rattle.std.specs.Prelude.{true};
 ghost use Rattle.pb_cmd_survive.specs.Survivals.{IsReport, IsLacking, IsSurviveText, status_of, criteria_of};
+ghost use Rattle.pb_cmd_survive.specs.Survivals.{passes, said_text};
 
 use crate::criteria::Criteria;
 use crate::drive::Patience;
 use crate::failure::{Failure, Kinds, failures};
+use crate::impact::Impact;
+use crate::judgement::{are_current, survives};
 use crate::look::{look_at, look_at_all};
 use crate::progress::FailureProgress;
 use crate::report::put_report;
 use crate::scope::{Scope, from_of, is_found, put_no_such, services_of};
+use crate::tables::put_tables;
+use pb_accept::Acceptance;
 use pb_converge::{DriveFault, fault_of};
+use pb_frame::Memory;
 use pb_lan::Plan;
 use pb_messages::{CommandFault, write_whole};
 use pb_report::put_refusal;
@@ -49,13 +55,19 @@ pub struct Asked<'a> {
     pub own: bool,
     /// The most ticks of each bridge until convergence.
     pub ticks: u32,
+    /// The disconnections that are accepted.
+    pub accepted: &'a [Acceptance],
+    /// Whether an acceptance that is stale changes the exit status.
+    pub strict: bool,
+    /// Whether the tables that accept what was found are written in place of the report.
+    pub as_tables: bool,
 }
 
-/// Returns the exit status for a network that survives or does not.
-fn status_of(survived: bool) -> u8
-    ensures { result ≡ status_of survived }
+/// Returns the exit status for a network that passes or does not.
+fn status_of(passed: bool) -> u8
+    ensures { result ≡ status_of passed }
 {
-    if survived { WHOLE } else { PARTED }
+    if passed { WHOLE } else { PARTED }
 }
 
 /// Returns what counts as disconnected, by the options.
@@ -67,6 +79,39 @@ fn criteria_of(plan: &Plan, asked: &Asked<'_>) -> Criteria
         from: from_of(plan, &asked.scope),
         own: asked.own,
     }
+}
+
+/// Checks whether the network survives, and no acceptance is stale if that is asked for.
+fn passes(
+    plan: &Plan,
+    asked: &Asked<'_>,
+    criteria: Criteria,
+    base: &Impact,
+    impacts: &[Impact],
+) -> bool
+    ensures { result ≡ passes plan.now asked.now criteria base.now impacts.now }
+{
+    survives(criteria, asked.accepted, base, impacts)
+        && are_current(plan, criteria, asked.strict, asked.accepted, base, impacts)
+}
+
+/// Appends the report, or in its place the tables that accept what was found.
+fn put_said(
+    out: &mut String,
+    plan: &Plan,
+    asked: &Asked<'_>,
+    criteria: Criteria,
+    base: &Impact,
+    impacts: &[Impact],
+) -> Result<(), Memory>
+    ensures { OnOk result (string_bytes out.new ≡ string_bytes out.old
+        ++ said_text plan.now asked.now criteria base.now impacts.now) }
+{
+    if asked.as_tables {
+        return put_tables(out, plan, criteria, base, impacts);
+    }
+    put_report(out, plan, criteria, asked.accepted, base, impacts)?;
+    Ok(())
 }
 
 /// Analyses a plan's network with nothing down and under each failure, and appends the report. Returns the exit status.
@@ -100,8 +145,9 @@ fn put_looks<R: Threads + Sync, V: FailureProgress>(
         progress,
     )?;
     let criteria = criteria_of(plan, asked);
-    let survived = put_report(out, plan, criteria, &base, impacts.as_slice())?;
-    Ok(status_of(survived))
+    let impacts = impacts.as_slice();
+    put_said(out, plan, asked, criteria, &base, impacts)?;
+    Ok(status_of(passes(plan, asked, criteria, &base, impacts)))
 }
 
 /// Appends the report on a plan, or that it lacks the requested service or port. Returns the exit status.
@@ -154,14 +200,15 @@ fn put_survive<R: Threads + Sync, V: FailureProgress>(
 /// Each single link fails, and each single bridge and each two links if `asked.kinds` has them. [`look_at`] analyses a
 /// failure, [`look_at_all`] analyses several in parallel, and [`put_report`] makes the report, which is the same each
 /// time. `progress.looked` is called after each failure, and `progress.close` once, before anything is written,
-/// whatever the result.
+/// whatever the result. If `asked.as_tables` is set, the report is replaced by a table `accept` in TOML for each service
+/// that each failure disconnects.
 ///
 /// | Exit status | When | Text |
 /// |---|---|---|
-/// | 0 | the network survives: it is healthy, and no failure does harm | the report |
+/// | 0 | the network survives: it is healthy, and no failure does harm that is not accepted | the report |
 /// | 1 | the file is not a valid plan | `plan: N WORD`, as `check` prints it |
 /// | 2 | the plan lacks the service or port of the scope | `no such service NAME` or `no such port NAME` |
-/// | 4 | the network does not survive | the report |
+/// | 4 | the network does not survive, or an acceptance is stale and `asked.strict` is set | the report |
 ///
 /// # Errors
 ///

@@ -4,17 +4,21 @@ ghost use Rattle.std.specs.Prelude.{◌≡◌, ◌++◌, not, count_by, string_b
 ghost use Rattle.pb_cmd_survive.specs.Reports.{kind_text, checked_line, ticks_of, slowest, has_converged};
 ghost use Rattle.pb_cmd_survive.specs.Reports.{ticks_line, converge_line, some_line, count_line, sparing_line};
 ghost use Rattle.pb_cmd_survive.specs.Reports.{parting_count_line, looping_line, unsettled_line};
-ghost use Rattle.pb_cmd_survive.specs.Reports.{totals_text, last_line};
+ghost use Rattle.pb_cmd_survive.specs.Reports.{totals_text, surviving_line, last_line, excused_line};
+ghost use Rattle.pb_cmd_survive.specs.Judgements.{harms, is_excused};
 ghost use Rattle.pb_cmd_survive.specs.Failures.{is_link, is_bridge, is_pair};
 ghost use Rattle.pb_cmd_survive.specs.Verdicts.{is_settled, are_forests, parts};
 ghost use Rattle.std.specs.List.{list_any};
 
+use crate::counted::put_counted;
 use crate::criteria::Criteria;
 use crate::failure::Failure;
 use crate::health::put_unhealthy;
 use crate::impact::Impact;
+use crate::judgement::{harms, is_excused};
 use crate::parting::parts;
 use crate::verdict::{are_forests, is_healthy, is_settled};
+use pb_accept::Acceptance;
 use pb_converge::Rest;
 use pb_frame::Memory;
 
@@ -79,14 +83,14 @@ fn count_pairs(impacts: &[Impact]) -> usize
 }
 
 /// Appends the number of failures of a kind, if there are any.
-fn put_kind(out: &mut String, count: usize, what: &str) -> Result<(), Memory>
-    ensures { OnOk result (string_bytes out.new ≡ string_bytes out.old ++ kind_text count what.now) }
+fn put_kind(out: &mut String, count: usize, noun: &str) -> Result<(), Memory>
+    ensures { OnOk result (string_bytes out.new ≡ string_bytes out.old ++ kind_text count noun.now) }
 {
     if count == 0 {
         return Ok(());
     }
-    write!(out, ", {count} ")?;
-    out.push_str(what)?;
+    out.push_str(", ")?;
+    put_counted(out, count, noun)?;
     Ok(())
 }
 
@@ -94,15 +98,16 @@ fn put_kind(out: &mut String, count: usize, what: &str) -> Result<(), Memory>
 fn put_checked(out: &mut String, impacts: &[Impact]) -> Result<(), Memory>
     ensures { OnOk result (string_bytes out.new ≡ string_bytes out.old ++ checked_line impacts.now) }
 {
-    write!(out, "checked {} links", count_links(impacts))?;
-    put_kind(out, count_bridges(impacts), "bridges")?;
-    put_kind(out, count_pairs(impacts), "pairs")?;
+    out.push_str("checked ")?;
+    put_counted(out, count_links(impacts), "link")?;
+    put_kind(out, count_bridges(impacts), "bridge")?;
+    put_kind(out, count_pairs(impacts), "pair")?;
     out.push_str("\n")?;
     Ok(())
 }
 
 /// Returns the ticks of each bridge until they converged, or 0 if they did not.
-fn ticks_of(rest: Rest) -> u32
+pub fn ticks_of(rest: Rest) -> u32
     ensures { result ≡ ticks_of rest }
 {
     match rest {
@@ -112,7 +117,7 @@ fn ticks_of(rest: Rest) -> u32
 }
 
 /// Checks whether the bridges ticked and converged.
-fn has_converged(rest: Rest) -> bool
+pub fn has_converged(rest: Rest) -> bool
     ensures { result ≡ has_converged rest }
 {
     match rest {
@@ -143,7 +148,9 @@ fn any_converged(impacts: &[Impact]) -> bool
 fn put_ticks(out: &mut String, ticks: u32) -> Result<(), Memory>
     ensures { OnOk result (string_bytes out.new ≡ string_bytes out.old ++ ticks_line ticks) }
 {
-    writeln!(out, "converges within {ticks} ticks")?;
+    out.push_str("converges within ")?;
+    put_counted(out, ticks as usize, "tick")?;
+    out.push_str("\n")?;
     Ok(())
 }
 
@@ -175,13 +182,33 @@ fn put_count(out: &mut String, count: usize, all: usize, what: &str) -> Result<(
     put_some(out, count, all, what)
 }
 
-/// Returns how many of the failures disconnect a service.
-fn count_parting(criteria: Criteria, base: &Impact, impacts: &[Impact]) -> usize
-    ensures { result ≡ count_by (parts criteria base.now) impacts.now }
+/// Returns how many of the failures are accepted.
+fn count_excused(
+    criteria: Criteria,
+    acceptances: &[Acceptance],
+    base: &Impact,
+    impacts: &[Impact],
+) -> usize
+    ensures { result ≡ count_by (is_excused criteria acceptances.now base.now) impacts.now }
 {
     impacts
         .iter()
-        .filter(|impact| parts(criteria, base, impact))
+        .filter(|impact| is_excused(criteria, acceptances, base, impact))
+        .count()
+}
+
+/// Returns how many of the failures disconnect a service and are not accepted.
+fn count_parting(
+    criteria: Criteria,
+    acceptances: &[Acceptance],
+    base: &Impact,
+    impacts: &[Impact],
+) -> usize
+    ensures { result ≡ count_by (harms criteria acceptances.now base.now) impacts.now }
+{
+    impacts
+        .iter()
+        .filter(|impact| harms(criteria, acceptances, base, impact))
         .count()
 }
 
@@ -228,17 +255,33 @@ fn put_sparing(
     put_count(out, count, impacts.len(), "disconnect nothing")
 }
 
-/// Appends how many failures disconnect a service.
-fn put_parting_count(
+/// Appends how many failures are accepted.
+fn put_excused(
     out: &mut String,
     criteria: Criteria,
+    acceptances: &[Acceptance],
     base: &Impact,
     impacts: &[Impact],
 ) -> Result<(), Memory>
     ensures { OnOk result (string_bytes out.new ≡ string_bytes out.old
-        ++ parting_count_line criteria base.now impacts.now) }
+        ++ excused_line criteria acceptances.now base.now impacts.now) }
 {
-    let count = count_parting(criteria, base, impacts);
+    let count = count_excused(criteria, acceptances, base, impacts);
+    put_count(out, count, impacts.len(), "are accepted")
+}
+
+/// Appends how many failures disconnect a service and are not accepted.
+fn put_parting_count(
+    out: &mut String,
+    criteria: Criteria,
+    acceptances: &[Acceptance],
+    base: &Impact,
+    impacts: &[Impact],
+) -> Result<(), Memory>
+    ensures { OnOk result (string_bytes out.new ≡ string_bytes out.old
+        ++ parting_count_line criteria acceptances.now base.now impacts.now) }
+{
+    let count = count_parting(criteria, acceptances, base, impacts);
     put_count(out, count, impacts.len(), "disconnect a service")
 }
 
@@ -262,27 +305,46 @@ fn put_unsettled_count(out: &mut String, impacts: &[Impact]) -> Result<(), Memor
 pub(crate) fn put_totals(
     out: &mut String,
     criteria: Criteria,
+    acceptances: &[Acceptance],
     base: &Impact,
     impacts: &[Impact],
 ) -> Result<(), Memory>
-    ensures { OnOk result (string_bytes out.new ≡ string_bytes out.old ++ totals_text criteria base.now impacts.now) }
+    ensures { OnOk result (string_bytes out.new ≡ string_bytes out.old
+        ++ totals_text criteria acceptances.now base.now impacts.now) }
 {
     put_checked(out, impacts)?;
     put_sparing(out, criteria, base, impacts)?;
     put_converge(out, impacts)?;
-    put_parting_count(out, criteria, base, impacts)?;
+    put_excused(out, criteria, acceptances, base, impacts)?;
+    put_parting_count(out, criteria, acceptances, base, impacts)?;
     put_looping(out, impacts)?;
     put_unsettled_count(out, impacts)?;
     Ok(())
 }
 
+/// Appends that the network survives every failure, or every one that is not accepted.
+fn put_surviving(out: &mut String, excused: bool) -> Result<(), Memory>
+    ensures { OnOk result (string_bytes out.new ≡ string_bytes out.old ++ surviving_line excused) }
+{
+    if excused {
+        out.push_str("survives every failure that is not accepted\n")?;
+    } else {
+        out.push_str("survives every single failure\n")?;
+    }
+    Ok(())
+}
+
 /// Appends the last line: that the network survives, or that it is not healthy with nothing down.
-pub(crate) fn put_last(out: &mut String, base: &Impact, survived: bool) -> Result<(), Memory>
-    ensures { OnOk result (string_bytes out.new ≡ string_bytes out.old ++ last_line base.now survived) }
+pub(crate) fn put_last(
+    out: &mut String,
+    base: &Impact,
+    survived: bool,
+    excused: bool,
+) -> Result<(), Memory>
+    ensures { OnOk result (string_bytes out.new ≡ string_bytes out.old ++ last_line base.now survived excused) }
 {
     if survived {
-        out.push_str("survives every single failure\n")?;
-        return Ok(());
+        return put_surviving(out, excused);
     }
     if is_healthy(base) {
         return Ok(());

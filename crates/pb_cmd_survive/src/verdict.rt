@@ -1,9 +1,10 @@
-//! Whether a network is healthy with nothing down, and whether it survives failures.
+//! Whether a network is healthy with nothing down, and whether a failure is harmless.
 
 ghost use Rattle.std.specs.Prelude.{◌≡◌, ◌==◌, ◌&&◌, not, length, nat_lt};
 ghost use Rattle.std.specs.List.{list_any, list_all};
-ghost use Rattle.pb_cmd_survive.specs.Verdicts.{is_settled, are_forests, is_apart, is_split, is_healthy_service, is_healthy};
-ghost use Rattle.pb_cmd_survive.specs.Verdicts.{is_quiet, survives};
+ghost use Rattle.pb_cmd_survive.specs.Verdicts.{is_settled, are_forests, is_apart, is_split, is_healthy_service};
+ghost use Rattle.pb_cmd_survive.specs.Verdicts.{is_healthy};
+ghost use Rattle.pb_cmd_survive.specs.Verdicts.{is_quiet};
 
 use crate::criteria::Criteria;
 use crate::impact::Impact;
@@ -13,7 +14,7 @@ use crate::view::View;
 use pb_converge::Rest;
 
 /// Checks whether the bridges converged, or had nothing to decide.
-pub(crate) fn is_settled(rest: Rest) -> bool
+pub fn is_settled(rest: Rest) -> bool
     ensures { result ≡ is_settled rest }
 {
     match rest {
@@ -72,20 +73,4 @@ pub(crate) fn is_quiet(criteria: Criteria, base: &Impact, impact: &Impact) -> bo
     is_settled(impact.rest)
         && are_forests(impact.views.as_slice())
         && !parts(criteria, base, impact)
-}
-
-/// Checks whether each failure is harmless.
-fn are_quiet(criteria: Criteria, base: &Impact, impacts: &[Impact]) -> bool
-    ensures { result ≡ list_all (is_quiet criteria base.now) impacts.now }
-{
-    impacts
-        .iter()
-        .all(|impact| is_quiet(criteria, base, impact))
-}
-
-/// Checks whether the network is healthy with nothing down, and each failure is harmless.
-pub(crate) fn survives(criteria: Criteria, base: &Impact, impacts: &[Impact]) -> bool
-    ensures { result ≡ survives criteria base.now impacts.now }
-{
-    is_healthy(base) && are_quiet(criteria, base, impacts)
 }

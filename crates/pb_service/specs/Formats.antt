@@ -8,9 +8,10 @@ use Rattle.pb_service.specs.declared.rule.Rule.TheVariants.{Number, BridgePriori
 use Rattle.pb_service.specs.Keys.{KeyRule, with_default, without_default}
 use Rattle.pb_service.specs.Told.{has_key, text_told}
 
--- the keys at the top
+-- the keys at the top: those of the plan, and `accept`, which pb_accept reads
 abbrev pub top_keys : List (List ℕ)
-top_keys = codes "network" ∷ codes "bridge" ∷ codes "link" ∷ codes "service" ∷ codes "port" ∷ codes "event" ∷ []
+top_keys =
+    codes "network" ∷ codes "bridge" ∷ codes "link" ∷ codes "service" ∷ codes "port" ∷ codes "event" ∷ codes "accept" ∷ []
 
 -- the keys of the network
 abbrev pub network_keys : List KeyRule

@@ -171,5 +171,6 @@ fn is_top_key(key: &str) -> bool
 {
     key == "network"
         || (key == "bridge"
-            || (key == "link" || (key == "service" || (key == "port" || key == "event"))))
+            || (key == "link"
+                || (key == "service" || (key == "port" || (key == "event" || key == "accept")))))
 }

@@ -1,10 +1,8 @@
 use Rattle.std.proofs.Common.{◌≡◌, ◌++◌, string_bytes, refl, ap, subst, ◌∙◌}
 use Rattle.pb_cmd_survive.specs.Failures.{all_failures}
 use Rattle.pb_cmd_survive.specs.Impacts.{IsImpact, AreImpacts}
-use Rattle.pb_cmd_survive.specs.Reports.{report_text}
 use Rattle.pb_cmd_survive.specs.Scopes.{services_of}
-use Rattle.pb_cmd_survive.specs.Survivals.{most_events, status_of, criteria_of}
-use Rattle.pb_cmd_survive.specs.Verdicts.{survives}
+use Rattle.pb_cmd_survive.specs.Survivals.{most_events, status_of, criteria_of, passes, said_text}
 use Rattle.pb_cmd_survive.specs.declared.failure.Failure.TheVariants.{Nothing}
 use Rattle.pb_cmd_survive.proofs.survive.put_looks.Goals as goal
 
@@ -23,15 +21,15 @@ returns g c =
     ∙ c.in_ok-failures.ensures in
     let looked = subst (λ fs. AreImpacts plan c.as_slice-2.result.now asked.ticks most_events fs impacts) failures
     c.in_ok-impacts.ensures in
-    let text : string_bytes c.put_report.new.out ≡ string_bytes c.args.out.now
-    ++ report_text plan criteria base impacts = c.in_ok-survived.ensures.text
-    ∙ ap (λ k. string_bytes c.args.out.now ++ report_text plan k base c.as_slice-4.result.now)
-    c.criteria_of-criteria.ensures
-    ∙ ap (λ os. string_bytes c.args.out.now ++ report_text plan criteria base os) c.as_slice-4.ensures.value in
-    let survived : c.in_ok-survived.survived ≡ survives criteria base impacts =
-    c.in_ok-survived.ensures.survives ∙ ap (λ k. survives k base c.as_slice-4.result.now)
-    c.criteria_of-criteria.ensures ∙ ap (λ os. survives criteria base os) c.as_slice-4.ensures.value in (
-      report_text plan criteria base impacts,
+    let told = c.as_slice-impacts.result.now in
+    let text : string_bytes c.put_said.new.out ≡ string_bytes c.args.out.now
+    ++ said_text plan asked criteria base impacts = c.in_ok-put_said.ensures
+    ∙ ap (λ k. string_bytes c.args.out.now ++ said_text plan asked k base told) c.criteria_of-criteria.ensures
+    ∙ ap (λ os. string_bytes c.args.out.now ++ said_text plan asked criteria base os) c.as_slice-impacts.ensures.value
+    in
+    let passed = c.passes.ensures ∙ ap (λ k. passes plan asked k base told) c.criteria_of-criteria.ensures
+    ∙ ap (λ os. passes plan asked criteria base os) c.as_slice-impacts.ensures.value in (
+      said_text plan asked criteria base impacts,
       text,
       record {
         found = c.requires.found;
@@ -41,6 +39,6 @@ returns g c =
         are_impacts = subst (λ ns. AreImpacts plan ns asked.ticks most_events (all_failures plan asked.kinds)
             impacts) services' looked;
         text_is = refl;
-        status_is = c.status_of.ensures ∙ ap status_of survived;
+        status_is = c.status_of.ensures ∙ ap status_of passed;
       },
     )
