@@ -1,0 +1,8 @@
+use Rattle.std.proofs.Common.{◌≡◌, ◌++◌, drop, flat_map, string_bytes}
+use Rattle.pb_cmd_diff.specs.Reports.{next_text}
+use Rattle.pb_cmd_diff.proofs.lines.put_others.Given as goal
+
+abbrev pub invariant-loop-other : goal.invariant-loop-other
+invariant-loop-other l =
+    string_bytes l.out ++ flat_map (next_text l.old l.members l.one) (drop l.other-index l.members)
+    ≡ string_bytes l.initial.out ++ flat_map (next_text l.old l.members l.one) l.members

@@ -1,0 +1,9 @@
+pub mod Cases
+pub mod Compared
+pub mod Members
+pub mod Verdicts
+pub mod Losses
+pub mod Effects
+pub mod Ends
+pub mod Reports
+pub mod Diffs
