@@ -1,10 +1,10 @@
 -- The command lines that the program accepts.
-use Rattle.std.specs.Prelude.{◌≡◌, ◌⊎◌, ℕ, ◌≤◌, List, Some, None, codes, string_bytes}
+use Rattle.std.specs.Prelude.{◌≡◌, ◌⊎◌, ℕ, ◌≤◌, List, Some, None, IfSome, codes, string_bytes}
 use Rattle.std.specs.declared.option.Option.{Option}
 use Rattle.pb_cli.specs.declared.init_options.InitOptions.{InitOptions}
 use Rattle.pb_cli.specs.declared.init_options.InitOptions.TheVariants.{Line, Ring, Star}
 use Rattle.pb_cli.specs.declared.command_line.CommandLine.{CommandLine}
-use Rattle.pb_cli.specs.declared.command_line.CommandLine.TheVariants.{Flat, Check, Step, Run, Tree, Trace, Show, Init, Survive, Draw, Control}
+use Rattle.pb_cli.specs.declared.command_line.CommandLine.TheVariants.{Flat, Check, Step, Run, Tree, Trace, Show, Init, Survive, Diff, Draw, Control}
 
 -- a run is stopped after 1 to 1,000,000,000 seconds, or not
 abbrev pub AreSeconds : Option ℕ → Type 0
@@ -15,13 +15,9 @@ AreSeconds (Some seconds) = (1 ≤ seconds) × (seconds ≤ 1000000000)
 abbrev pub IsLinger : ℕ → Type 0
 IsLinger linger = linger ≤ 60000
 
--- each bridge ticks 0 to 100,000 times at most
-abbrev pub AreTicks : ℕ → Type 0
-AreTicks ticks = ticks ≤ 100000
-
 -- each bridge ticks 1 to 1,000,000 times at most
-abbrev pub AreWaitedTicks : ℕ → Type 0
-AreWaitedTicks ticks = (1 ≤ ticks) × (ticks ≤ 1000000)
+abbrev pub AreTicks : ℕ → Type 0
+AreTicks ticks = (1 ≤ ticks) × (ticks ≤ 1000000)
 
 -- a line has 1 to 32 bridges, a ring 3 to 32, and a star 2 to 17
 abbrev pub IsNetwork : InitOptions → Type 0
@@ -40,27 +36,29 @@ IsAsked line ring star options =
 -- the numbers of a command line are in their ranges
 abbrev pub HasValidArguments : CommandLine → Type 0
 HasValidArguments (Flat ports) = (2 ≤ ports) × (ports ≤ 16)
-HasValidArguments (Check report) = Unit {0}
+HasValidArguments (Check options) = Unit {0}
 HasValidArguments (Step report) = Unit {0}
 HasValidArguments (Run run) = AreSeconds run.seconds × IsLinger run.linger
 HasValidArguments (Tree tree) = AreTicks tree.ticks
-HasValidArguments (Trace trace) = Unit {0}
+HasValidArguments (Trace trace) = IfSome trace.settle AreTicks
 HasValidArguments Show = Unit {0}
 HasValidArguments (Init options) = IsNetwork options
-HasValidArguments (Survive options) = AreWaitedTicks options.ticks
+HasValidArguments (Survive options) = AreTicks options.ticks
+HasValidArguments (Diff options) = AreTicks options.ticks
 HasValidArguments (Draw options) = AreTicks options.ticks
 HasValidArguments (Control control) = Unit {0}
 
 -- the command line of a command over the plan file at a path, with numbers in their ranges
 abbrev pub IsPlanCommandLine : List ℕ → List ℕ → CommandLine → Type 0
-IsPlanCommandLine command path (Check report) = (command ≡ codes "check") × (string_bytes report.path ≡ path)
+IsPlanCommandLine command path (Check options) = (command ≡ codes "check") × (string_bytes options.path ≡ path)
 IsPlanCommandLine command path (Step report) = (command ≡ codes "step") × (string_bytes report.path ≡ path)
 IsPlanCommandLine command path (Run run) =
     (command ≡ codes "run") × (string_bytes run.path ≡ path) × AreSeconds run.seconds × IsLinger run.linger
 IsPlanCommandLine command path (Tree tree) = (command ≡ codes "tree") × (string_bytes tree.path ≡ path) × AreTicks tree.ticks
-IsPlanCommandLine command path (Trace trace) = (command ≡ codes "trace") × (string_bytes trace.path ≡ path)
+IsPlanCommandLine command path (Trace trace) =
+    (command ≡ codes "trace") × (string_bytes trace.path ≡ path) × IfSome trace.settle AreTicks
 IsPlanCommandLine command path (Survive options) =
-    (command ≡ codes "survive") × (string_bytes options.path ≡ path) × AreWaitedTicks options.ticks
+    (command ≡ codes "survive") × (string_bytes options.path ≡ path) × AreTicks options.ticks
 IsPlanCommandLine command path (Draw options) =
     (command ≡ codes "draw") × (string_bytes options.path ≡ path) × AreTicks options.ticks
 IsPlanCommandLine command path _ = ⊥

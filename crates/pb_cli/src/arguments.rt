@@ -1,13 +1,24 @@
 //! Arguments of several commands.
 
 ghost use Rattle.std.specs.Prelude.{◌≡◌, ◌↔◌, codes};
+ghost use Rattle.pb_cli.specs.CommandLines.{AreTicks};
 
 use crate::table::{Argument, Takes};
 use clap::ArgMatches;
 use std::alloc::{AllocError, Global};
 
 /// The help of `--down`.
-const DOWN: &str = "Disable port PORT of BRIDGE first; repeat it to disable both ends of a link";
+const DOWN: &str =
+    "First disable a link, a bridge with all of its links, or one port BRIDGE:PORT; may be repeated";
+
+/// The most ticks of each bridge without `--ticks`.
+const TICKS: u32 = 200;
+
+/// The largest value of `--ticks`.
+const MOST_TICKS: u32 = 1_000_000;
+
+/// The help of `--ticks`.
+const TICKS_HELP: &str = "Wait at most N ticks for convergence [default: 200] [range: 1-1000000]";
 
 /// The help of `--format` for text and JSON.
 const DOCUMENT: &str = "Format of the report [default: text]";
@@ -35,12 +46,30 @@ pub(crate) const PLAN_FILE: Argument = Argument {
     excludes: &[],
 };
 
-/// The argument for ports that are disabled first.
+/// The argument for what is disabled first.
 pub(crate) const DOWNS: Argument = Argument {
     name: "down",
-    value: "BRIDGE:PORT",
+    value: "NAME",
     help: DOWN,
     takes: Takes::Texts,
+    excludes: &[],
+};
+
+/// The argument for the most ticks of each bridge.
+pub(crate) const TICK_LIMIT: Argument = Argument {
+    name: "ticks",
+    value: "N",
+    help: TICKS_HELP,
+    takes: Takes::Number(1, 1_000_000),
+    excludes: &[],
+};
+
+/// The argument for the most ticks of each bridge, if the bridges converge by `--settle` alone.
+pub(crate) const SETTLE_LIMIT: Argument = Argument {
+    name: "ticks",
+    value: "N",
+    help: TICKS_HELP,
+    takes: Takes::NumberWith(1, 1_000_000, &["settle"]),
     excludes: &[],
 };
 
@@ -100,7 +129,17 @@ pub(crate) fn text_of(
     }
 }
 
-/// Returns the ports that are disabled first, each as BRIDGE:PORT.
+/// Returns the most ticks of each bridge.
+pub(crate) fn ticks_of(given: &ArgMatches<'_>) -> u32
+    ensures { AreTicks result }
+{
+    match given.get_one::<u32>("ticks") {
+        Some(ticks) if 1 <= ticks && ticks <= MOST_TICKS => ticks,
+        _ => TICKS,
+    }
+}
+
+/// Returns what is disabled first: names of links and bridges, and ports as BRIDGE:PORT.
 ///
 /// # Errors
 ///

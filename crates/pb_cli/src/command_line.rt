@@ -3,8 +3,10 @@
 ghost use Rattle.std.specs.Prelude.{IfOk, IfSome};
 ghost use Rattle.pb_cli.specs.CommandLines.{HasValidArguments, IsPlanCommandLine};
 
-use crate::arguments::{AS_DOCUMENT, AS_TABLE, PLAN_FILE};
+use crate::arguments::{AS_TABLE, PLAN_FILE};
+use crate::check_options::{self, CHECK, CheckOptions, check_options};
 use crate::control_options::{self, CONTROL, ControlOptions, control_options};
+use crate::diff_options::{self, DIFF, DiffOptions, diff_options};
 use crate::draw_options::{self, DRAW, DrawOptions, draw_options};
 use crate::init_options::{self, INIT, InitOptions, init_options};
 use crate::report_options::{ReportOptions, report_options};
@@ -17,13 +19,10 @@ use clap::{ArgMatches, Command, Error};
 use std::alloc::{AllocError, Global};
 
 /// The version of the program.
-const VERSION: &str = "0.4.0";
+const VERSION: &str = "0.5.0";
 
 /// The help of `flat`.
 const FLAT: &str = "Run one bridge on `in PORT HEX` lines from standard input";
-
-/// The help of `check`.
-const CHECK: &str = "Validate a plan and report forwarding loops";
 
 /// The help of `step`.
 const STEP: &str = "Drive a network event by event from a script on standard input";
@@ -37,7 +36,7 @@ pub enum CommandLine {
     /// `flat`: one bridge with so many ports, driven by the lines of standard input.
     Flat(u8),
     /// `check`: the validation of a plan file.
-    Check(ReportOptions),
+    Check(CheckOptions),
     /// `step`: the network of a plan file, driven by the script on standard input.
     Step(ReportOptions),
     /// `run`: the network of a plan file in threads.
@@ -52,6 +51,8 @@ pub enum CommandLine {
     Init(InitOptions),
     /// `survive`: the network of a plan file under failures.
     Survive(SurviveOptions),
+    /// `diff`: the networks of two plan files, compared.
+    Diff(DiffOptions),
     /// `draw`: a picture of the network of a plan file.
     Draw(DrawOptions),
     /// `control`: commands for a running network.
@@ -77,7 +78,7 @@ const COMMANDS: &[CommandRow] = &[
     CommandRow {
         name: "check",
         about: CHECK,
-        arguments: &[AS_DOCUMENT, PLAN_FILE],
+        arguments: check_options::ARGUMENTS,
     },
     CommandRow {
         name: "step",
@@ -103,6 +104,11 @@ const COMMANDS: &[CommandRow] = &[
         name: "survive",
         about: SURVIVE,
         arguments: survive_options::ARGUMENTS,
+    },
+    CommandRow {
+        name: "diff",
+        about: DIFF,
+        arguments: diff_options::ARGUMENTS,
     },
     CommandRow {
         name: "draw",
@@ -154,7 +160,7 @@ fn plan_command_line(
     ensures { IfOk result (λ o. IfSome o (λ line. IsPlanCommandLine command.now path.now line)) }
 {
     if command == "check" {
-        return Ok(Some(CommandLine::Check(report_options(alloc, path, given)?)));
+        return Ok(Some(CommandLine::Check(check_options(alloc, path, given)?)));
     }
     if command == "step" {
         return Ok(Some(CommandLine::Step(report_options(alloc, path, given)?)));
@@ -205,6 +211,12 @@ pub fn command_line_of(alloc: Global, arguments: &[String]) -> Result<Option<Com
         Some(("control", given)) => match given.get_str("PATH") {
             Some(path) => Ok(Some(CommandLine::Control(control_options(alloc, path, given)?))),
             None => Ok(None),
+        },
+        Some(("diff", given)) => match (given.get_str("OLD"), given.get_str("NEW")) {
+            (Some(old), Some(new)) => {
+                Ok(Some(CommandLine::Diff(diff_options(alloc, old, new, given)?)))
+            }
+            _ => Ok(None),
         },
         Some((command, given)) => match given.get_str("FILE") {
             Some(path) => Ok(plan_command_line(alloc, command, path, given)?),

@@ -3,9 +3,8 @@
 ghost use Rattle.std.specs.Prelude.{◌≡◌, IfOk, string_bytes};
 ghost use Rattle.pb_cli.specs.CommandLines.{AreTicks};
 
-use crate::arguments::{DOWNS, PLAN_FILE, downs_of, text_of};
+use crate::arguments::{DOWNS, PLAN_FILE, TICK_LIMIT, downs_of, text_of, ticks_of};
 use crate::table::{Argument, Takes};
-use crate::tree_options::{TICK_LIMIT, ticks_of};
 use clap::ArgMatches;
 use std::alloc::{AllocError, Global};
 
@@ -65,11 +64,11 @@ pub struct DrawOptions {
     pub path: String,
     /// The name of the service to highlight, if any.
     pub service: Option<String>,
-    /// The ports that are disabled first, each as BRIDGE:PORT.
+    /// What is disabled first: names of links and bridges, and ports as BRIDGE:PORT.
     pub downs: Vec<String>,
     /// The form in which the picture is written.
     pub format: PictureFormat,
-    /// The most ticks of each bridge, 0 to 100,000.
+    /// The most ticks of each bridge, 1 to 1,000,000.
     pub ticks: u32,
     /// The path of the file for the picture. None: standard output.
     pub output: Option<String>,

@@ -3,8 +3,10 @@
 #![tactic(auto)]
 
 mod arguments;
+mod check_options;
 mod command_line;
 mod control_options;
+mod diff_options;
 mod draw_options;
 mod init_options;
 mod report_options;
@@ -15,8 +17,10 @@ mod trace_options;
 mod tree_options;
 
 pub use arguments::ReportFormat;
+pub use check_options::CheckOptions;
 pub use command_line::{CommandLine, command_line_of};
 pub use control_options::ControlOptions;
+pub use diff_options::DiffOptions;
 pub use draw_options::{DrawOptions, PictureFormat};
 pub use init_options::InitOptions;
 pub use report_options::ReportOptions;

@@ -1,4 +1,4 @@
-//! The options of `check` and `step`.
+//! The options of `step`.
 
 ghost use Rattle.std.specs.Prelude.{◌≡◌, IfOk, string_bytes};
 
@@ -6,7 +6,7 @@ use crate::arguments::{ReportFormat, report_format_of};
 use clap::ArgMatches;
 use std::alloc::{AllocError, Global};
 
-/// The options of `check` and `step`: a report over a plan file.
+/// The options of `step`: a report over a plan file.
 #[derive(PartialEq, Eq, Debug, Drop)]
 pub struct ReportOptions {
     /// The path of the plan file.
@@ -15,7 +15,7 @@ pub struct ReportOptions {
     pub format: ReportFormat,
 }
 
-/// Returns the options of `check` or `step` for the plan file at a path.
+/// Returns the options of `step` for the plan file at a path.
 ///
 /// # Errors
 ///

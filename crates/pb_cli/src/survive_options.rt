@@ -1,18 +1,14 @@
 //! The options of `survive`.
 
 ghost use Rattle.std.specs.Prelude.{◌≡◌, IfOk, string_bytes};
-ghost use Rattle.pb_cli.specs.CommandLines.{AreWaitedTicks};
+ghost use Rattle.pb_cli.specs.CommandLines.{AreTicks};
 
-use crate::arguments::{AS_TABLE, PLAN_FILE, ReportFormat, report_format_of, text_of};
+use crate::arguments::{
+    AS_TABLE, PLAN_FILE, ReportFormat, TICK_LIMIT, report_format_of, text_of, ticks_of,
+};
 use crate::table::{Argument, Takes};
 use clap::ArgMatches;
 use std::alloc::{AllocError, Global};
-
-/// The most ticks of each bridge without `--ticks`.
-const USUAL: u32 = 200;
-
-/// The largest value of `--ticks`.
-const MOST: u32 = 1_000_000;
 
 /// The help of `survive`.
 pub(crate) const SURVIVE: &str = "Fail each link in turn and report disconnected sites";
@@ -32,8 +28,14 @@ const SERVICE: &str = "Analyse only this service";
 /// The help of `--from`.
 const FROM: &str = "Report only failures that disconnect this customer port from others";
 
-/// The help of `--ticks`.
-const TICKS: &str = "Wait at most N ticks for convergence [default: 200] [range: 1-1000000]";
+/// The help of `--accept`.
+const ACCEPT: &str = "Accept the disconnections that this TOML file lists in [[accept]]";
+
+/// The help of `--strict`.
+const STRICT: &str = "Exit with status 4 if an acceptance is stale";
+
+/// The help of `--print-accept`.
+const PRINT_ACCEPT: &str = "Print the tables [[accept]] of what was found, and no report";
 
 /// The arguments of `survive`.
 pub(crate) const ARGUMENTS: &[Argument] = &[
@@ -72,14 +74,29 @@ pub(crate) const ARGUMENTS: &[Argument] = &[
         takes: Takes::Text,
         excludes: &["service"],
     },
-    AS_TABLE,
     Argument {
-        name: "ticks",
-        value: "N",
-        help: TICKS,
-        takes: Takes::Number(1, 1_000_000),
+        name: "accept",
+        value: "PATH",
+        help: ACCEPT,
+        takes: Takes::Text,
         excludes: &[],
     },
+    Argument {
+        name: "strict",
+        value: "",
+        help: STRICT,
+        takes: Takes::Nothing,
+        excludes: &[],
+    },
+    Argument {
+        name: "print-accept",
+        value: "",
+        help: PRINT_ACCEPT,
+        takes: Takes::Nothing,
+        excludes: &["format"],
+    },
+    AS_TABLE,
+    TICK_LIMIT,
     PLAN_FILE,
 ];
 
@@ -107,6 +124,12 @@ pub struct SurviveOptions {
     pub own: bool,
     /// The services that are analysed.
     pub scope: SurviveScope,
+    /// The path of a file of acceptances besides those of the plan file.
+    pub accept: Option<String>,
+    /// Whether a stale acceptance changes the exit status.
+    pub strict: bool,
+    /// Whether the tables that accept what was found are printed in place of the report.
+    pub prints_accept: bool,
     /// The most ticks of each bridge until convergence, 1 to 1,000,000.
     pub ticks: u32,
     /// The form in which the report is printed.
@@ -128,16 +151,6 @@ fn scope_of(alloc: Global, given: &ArgMatches<'_>) -> Result<SurviveScope, Alloc
     Ok(SurviveScope::All)
 }
 
-/// Returns the most ticks of each bridge.
-fn ticks_of(given: &ArgMatches<'_>) -> u32
-    ensures { AreWaitedTicks result }
-{
-    match given.get_one::<u32>("ticks") {
-        Some(ticks) if 1 <= ticks && ticks <= MOST => ticks,
-        _ => USUAL,
-    }
-}
-
 /// Returns the options of `survive` for the plan file at a path.
 ///
 /// # Errors
@@ -149,7 +162,7 @@ pub(crate) fn survive_options(
     given: &ArgMatches<'_>,
 ) -> Result<SurviveOptions, AllocError>
     ensures path { IfOk result (λ options. string_bytes options.path ≡ path.now) }
-    ensures ticks { IfOk result (λ options. AreWaitedTicks options.ticks) }
+    ensures ticks { IfOk result (λ options. AreTicks options.ticks) }
 {
     let scope = scope_of(alloc, given)?;
     Ok(SurviveOptions {
@@ -158,6 +171,9 @@ pub(crate) fn survive_options(
         bridges: given.get_flag("bridges"),
         own: given.get_flag("own"),
         scope,
+        accept: text_of(alloc, given, "accept")?,
+        strict: given.get_flag("strict"),
+        prints_accept: given.get_flag("print-accept"),
         ticks: ticks_of(given),
         format: report_format_of(given),
     })

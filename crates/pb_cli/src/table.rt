@@ -21,6 +21,8 @@ pub(crate) enum Takes {
     Name(&'static [&'static str]),
     /// A number from the first to the second, below 2^32.
     Number(i64, i64),
+    /// A number from the first to the second, below 2^32. The argument requires these other ones.
+    NumberWith(i64, i64, &'static [&'static str]),
     /// A number from the first to the second, below 256.
     Small(i64, i64),
     /// A text. The argument is positional and required.
@@ -95,7 +97,7 @@ fn taking<'a>(arg: Arg<'a>, argument: Argument) -> Arg<'a> {
         Takes::Texts => named(arg, argument).action(ArgAction::Append),
         Takes::Frames => framed(arg, argument),
         Takes::Name(names) => named(arg, argument).value_parser(ValueParser::Names(names)),
-        Takes::Number(least, most) => {
+        Takes::Number(least, most) | Takes::NumberWith(least, most, _) => {
             named(arg, argument).value_parser(clap::value_parser!(u32).range(least..=most))
         }
         Takes::Small(least, most) => {
@@ -109,6 +111,14 @@ fn taking<'a>(arg: Arg<'a>, argument: Argument) -> Arg<'a> {
     }
 }
 
+/// Returns the arguments that an argument requires.
+fn required_by(takes: Takes) -> &'static [&'static str] {
+    match takes {
+        Takes::NumberWith(_, _, required) => required,
+        _ => &[],
+    }
+}
+
 /// Returns the parser's argument for a row of a table.
 ///
 /// # Errors
@@ -116,6 +126,7 @@ fn taking<'a>(arg: Arg<'a>, argument: Argument) -> Arg<'a> {
 /// `Error` of kind `OutOfMemory` if an allocation failed.
 fn arg_of<'a>(alloc: Global, argument: Argument) -> Result<Arg<'a>, Error> {
     let arg = taking(Arg::new(alloc, argument.name).help(argument.help), argument);
+    let arg = arg.requires_all(required_by(argument.takes))?;
     Ok(arg.conflicts_with_all(argument.excludes)?)
 }
 

@@ -1,8 +1,11 @@
 //! The options of `trace`.
 
 ghost use Rattle.std.specs.Prelude.{◌≡◌, IfOk, IfSome, string_bytes};
+ghost use Rattle.pb_cli.specs.CommandLines.{AreTicks};
 
-use crate::arguments::{AS_DOCUMENT, PLAN_FILE, ReportFormat, report_format_of};
+use crate::arguments::{
+    AS_DOCUMENT, DOWNS, PLAN_FILE, ReportFormat, SETTLE_LIMIT, downs_of, report_format_of, ticks_of,
+};
 use crate::table::{Argument, Takes};
 use clap::ArgMatches;
 use std::alloc::{AllocError, Global};
@@ -20,7 +23,7 @@ const HEX: &str = "Frame from the destination address on, as pairs of hexadecima
 const THEN: &str = "Inject another frame once the one before is traced; may be repeated";
 
 /// The help of `--settle`.
-const SETTLE: &str = "Let the bridges converge first (RSTP), for at most 200 ticks";
+const SETTLE: &str = "Let the bridges converge first (RSTP), for at most N ticks of --ticks";
 
 /// The arguments of `trace`.
 pub(crate) const ARGUMENTS: &[Argument] = &[
@@ -46,6 +49,7 @@ pub(crate) const ARGUMENTS: &[Argument] = &[
         takes: Takes::Frames,
         excludes: &[],
     },
+    DOWNS,
     AS_DOCUMENT,
     Argument {
         name: "settle",
@@ -54,6 +58,7 @@ pub(crate) const ARGUMENTS: &[Argument] = &[
         takes: Takes::Nothing,
         excludes: &[],
     },
+    SETTLE_LIMIT,
 ];
 
 /// A frame to inject.
@@ -72,8 +77,10 @@ pub struct TraceOptions {
     pub path: String,
     /// The frames, in order.
     pub entries: Vec<TraceEntry>,
-    /// Whether the bridges converge first.
-    pub settles: bool,
+    /// What is disabled first: names of links and bridges, and ports as BRIDGE:PORT.
+    pub downs: Vec<String>,
+    /// The most ticks of each bridge until convergence, 1 to 1,000,000. None: the bridges do not converge first.
+    pub settle: Option<u32>,
     /// The form in which the trace is printed, text or JSON.
     pub format: ReportFormat,
 }
@@ -137,6 +144,17 @@ fn entries_of(
     Ok(entries)
 }
 
+/// Returns the most ticks of each bridge until convergence, if the bridges converge first.
+fn settle_of(given: &ArgMatches<'_>) -> Option<u32>
+    ensures { IfSome result AreTicks }
+{
+    if given.get_flag("settle") {
+        Some(ticks_of(given))
+    } else {
+        None
+    }
+}
+
 /// Returns the options of `trace` for the plan file at a path. None is never returned, because a required argument has
 /// a value; no contract says so.
 ///
@@ -148,16 +166,19 @@ pub(crate) fn trace_options(
     path: &str,
     given: &ArgMatches<'_>,
 ) -> Result<Option<TraceOptions>, AllocError>
-    ensures { IfOk result (λ o. IfSome o (λ trace. string_bytes trace.path ≡ path.now)) }
+    ensures path { IfOk result (λ o. IfSome o (λ trace. string_bytes trace.path ≡ path.now)) }
+    ensures ticks { IfOk result (λ o. IfSome o (λ trace. IfSome trace.settle AreTicks)) }
 {
     let (Some(port), Some(hex)) = (given.get_str("PORT"), given.get_str("HEX")) else {
         return Ok(None);
     };
     let entries = entries_of(alloc, port, hex, given)?;
+    let downs = downs_of(alloc, given)?;
     Ok(Some(TraceOptions {
         path: String::from_str(alloc, path)?,
         entries,
-        settles: given.get_flag("settle"),
+        downs,
+        settle: settle_of(given),
         format: report_format_of(given),
     }))
 }

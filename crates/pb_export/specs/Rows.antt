@@ -1,10 +1,12 @@
 -- The rows of a report, and the text that they give back.
-use Rattle.std.specs.Prelude.{Vec, ◌≡◌, ℕ, zero, suc, List, [], ◌∷◌, ◌++◌, map, flat_map, codes, Contains, All, ⊤}
+use Rattle.std.specs.Prelude.{Vec, ◌≡◌, ◌⊎◌, ℕ, zero, suc, List, [], ◌∷◌, ◌++◌, map, flat_map, codes, Contains, All, ⊤}
 use Rattle.std.specs.Fmt.{decimal}
 use Rattle.std.specs.declared.alloc.Global.{Global}
 use denote.Ref.{Bor}
 use Rattle.pb_export.specs.declared.templates.Kind.{Kind}
 use Rattle.pb_export.specs.declared.templates.Kind.TheVariants as kind
+use Rattle.pb_export.specs.declared.templates.Choice.{Choice}
+use Rattle.pb_export.specs.declared.templates.Said.TheVariants.{Nothing}
 use Rattle.pb_export.specs.declared.templates.Slot.{Slot}
 use Rattle.pb_export.specs.declared.templates.Template.{Template}
 use Rattle.pb_export.specs.declared.rows.Field.{Field}
@@ -55,6 +57,11 @@ row_text row = row.template.lead.now ++ fields_text row.fields.items
 abbrev pub report_text : List Row → List ℕ
 report_text rows = flat_map (λ row. row_text row ++ 10 ∷ []) rows
 
+-- an s or nothing, without a meaning
+pub record IsEnding (choice : Choice) : Type 0 where
+  pub says : choice.says ≡ Nothing
+  pub text : (choice.text.now ≡ codes "s") ⊎ (choice.text.now ≡ [])
+
 -- a slot of this kind may hold the value
 abbrev pub Fits : Kind → Field → Type 0
 Fits kind.Text (Text t) = ⊤
@@ -63,6 +70,7 @@ Fits kind.Depth (Depth n) = ⊤
 Fits kind.Words (Words v) = ⊤
 Fits kind.Numbers (Numbers v) = ⊤
 Fits kind.Groups (Groups v last) = ⊤
+Fits kind.Plural (Chosen choice) = IsEnding choice
 Fits (kind.OneOf choices) (Chosen choice) = Contains choices.now choice
 Fits _ _ = ⊥
 

@@ -30,6 +30,7 @@ macro_rules! list {
 
 mod checking;
 mod counting;
+mod diffing;
 mod shared;
 mod surviving;
 mod tracing;
@@ -37,6 +38,7 @@ mod treeing;
 
 pub use checking::CHECK;
 pub use counting::{COUNTS, RUN, STEP};
+pub use diffing::DIFF;
 pub use surviving::{FAILURES, SURVIVE};
 pub use tracing::TRACE;
 pub use treeing::TREE;

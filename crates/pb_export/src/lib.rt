@@ -19,7 +19,7 @@ mod values;
 mod words;
 
 pub use faults::FormatFault;
-pub use forms::{CHECK, COUNTS, FAILURES, RUN, STEP, SURVIVE, TRACE, TREE};
+pub use forms::{CHECK, COUNTS, DIFF, FAILURES, RUN, STEP, SURVIVE, TRACE, TREE};
 pub use json::json_of;
 pub use reading::read_report;
 pub use rows::{Field, Filled, Row};

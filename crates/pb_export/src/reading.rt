@@ -2,12 +2,12 @@
 
 ghost use Rattle.std.specs.Prelude.{◌≡◌, ◌++◌, List, map, Contains, All, IfOk, IfSome};
 ghost use Rattle.pb_export.specs.Rows.{field_text, fields_text, filled_text, report_text, row_text, Fits, IsFilled};
-ghost use Rattle.pb_export.specs.Rows.{AreFilled, IsRow, IsRowOf, AreRows};
+ghost use Rattle.pb_export.specs.Rows.{IsEnding, AreFilled, IsRow, IsRowOf, AreRows};
 
 use crate::faults::FormatFault;
 use crate::parts::{around, before, behind, depth_at, number_at};
 use crate::rows::{Field, Filled, Row};
-use crate::templates::{Choice, Kind, Slot, Template};
+use crate::templates::{Choice, Kind, Said, Slot, Template};
 use crate::words::{groups_in, numbers_at, words_in};
 use std::alloc::{AllocError, Global};
 
@@ -22,6 +22,18 @@ fn choice_at<'a>(choices: &[Choice], text: &'a str) -> Option<(Choice, &'a str)>
         }
     }
     None
+}
+
+/// Returns the ending of a noun with which a text begins, and the text after it.
+fn ending_at(text: &str) -> (Choice, &str)
+    ensures text { text.now ≡ result.0.text.now ++ result.1.now }
+    ensures ending { IsEnding result.0 }
+{
+    let says = Said::Nothing;
+    match behind(text, "s") {
+        Some(rest) => (Choice { text: "s", says }, rest),
+        None => (Choice { text: "", says }, text),
+    }
 }
 
 /// Returns the value of a slot that needs no allocation, and the text after it.
@@ -41,6 +53,10 @@ fn plain_field<'a>(slot: &Slot, text: &'a str) -> Option<(Field<'a>, &'a str)>
         Kind::Depth => {
             let (depth, rest) = depth_at(text);
             Some((Field::Depth(depth), rest))
+        }
+        Kind::Plural => {
+            let (choice, rest) = ending_at(text);
+            Some((Field::Chosen(choice), rest))
         }
         Kind::OneOf(choices) => {
             let (choice, rest) = choice_at(choices, text)?;
@@ -108,7 +124,9 @@ fn field_at<'a>(
         Kind::Words => words_field(alloc, text, slot.until),
         Kind::Numbers => numbers_field(alloc, text),
         Kind::Groups => groups_field(alloc, text),
-        Kind::Text | Kind::Number | Kind::Depth | Kind::OneOf(_) => Ok(plain_field(slot, text)),
+        Kind::Text | Kind::Number | Kind::Depth | Kind::Plural | Kind::OneOf(_) => {
+            Ok(plain_field(slot, text))
+        }
     }
 }
 

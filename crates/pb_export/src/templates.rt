@@ -37,6 +37,8 @@ pub enum Kind {
     Numbers,
     /// Groups of words, with ` |` between two groups, up to the end of the line.
     Groups,
+    /// The ending of a noun after a number: an `s`, or nothing. Its key is left out.
+    Plural,
     /// The first of these texts with which the rest of the line begins.
     OneOf(&'static [Choice]),
 }

@@ -1,5 +1,6 @@
 //! The command `draw`.
 
+use crate::downs::refuse_down;
 use crate::telling::{FAULT, WRONG_ARGUMENTS, tell};
 use crate::{REFUSED, contents, ended};
 use pb_cli::{DrawOptions, PictureFormat};
@@ -53,7 +54,7 @@ pub(crate) fn draw_network(
         Err(fault) => tell(rt, fault),
         Ok(DrawEnd::Drawn(rest)) => drawn_at(rt, rest),
         Ok(DrawEnd::Refused) => ended(rt, path, file.as_slice(), REFUSED),
-        Ok(DrawEnd::NoPort(index)) => no_port(rt, asked.downs, index),
+        Ok(DrawEnd::NoDown(fault)) => refuse_down(rt, file.as_slice(), asked.downs, fault),
         Ok(DrawEnd::NoService) => no_service(rt, asked.service),
     }
 }
@@ -118,16 +119,6 @@ fn drawn_at(rt: &impl Eprint, rest: Rest) -> ExitCode {
         let _ = eprintln!(rt; "warning: bridges not converged after {ticks} ticks");
     }
     ExitCode::SUCCESS
-}
-
-/// Reports that a `--down` names no port between bridges. Returns the exit status 2.
-fn no_port(rt: &impl Eprint, downs: &[String], index: usize) -> ExitCode {
-    if let Some(down) = downs.get(index) {
-        let _ = eprintln!(rt;
-            "error: invalid value '{down}' for '--down <BRIDGE:PORT>': no such port between bridges"
-        );
-    }
-    ExitCode::from(WRONG_ARGUMENTS)
 }
 
 /// Reports that the plan lacks the service of `--service`. Returns the exit status 2.

@@ -1,4 +1,4 @@
-//! The progress of `survive`.
+//! The progress of `survive` and `diff`.
 
 use pb_cmd_survive::FailureProgress;
 use std::sync::atomic::{AtomicU64, Ordering};
@@ -8,6 +8,8 @@ use std::time::Clock;
 #[derive(Drop)]
 pub struct Looks<'a, R> {
     rt: &'a R,
+    /// The name of the command.
+    command: &'static str,
     /// Whether progress is reported.
     is_shown: bool,
     /// The failures that were analysed.
@@ -20,13 +22,14 @@ pub struct Looks<'a, R> {
 
 impl<'a, R: Clock + Eprint> Looks<'a, R> {
     /// Creates the progress of an analysis that begins now.
-    pub fn new(rt: &'a R, is_shown: bool) -> Looks<'a, R> {
+    pub fn new(rt: &'a R, command: &'static str, is_shown: bool) -> Looks<'a, R> {
         let second = match rt.monotonic() {
             Ok(now) => now.as_secs(),
             Err(_) => 0,
         };
         Looks {
             rt,
+            command,
             is_shown,
             looked: AtomicU64::new(0),
             second: AtomicU64::new(second),
@@ -51,7 +54,8 @@ impl<R: Clock + Eprint + Sync> FailureProgress for Looks<'_, R> {
     fn looked(&self, failures: usize) {
         let looked = self.looked.fetch_add(1, Ordering::SeqCst).saturating_add(1);
         if self.is_shown && self.is_due() {
-            let _ = eprint!(self.rt; "\rsurvive: {looked} of {failures} failures analysed");
+            let command = self.command;
+            let _ = eprint!(self.rt; "\r{command}: {looked} of {failures} failures analysed");
             self.lines.store(1, Ordering::SeqCst);
         }
     }

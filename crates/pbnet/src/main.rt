@@ -5,8 +5,12 @@
 //! docs/COMMANDS.md and docs/RUNNING.md list all statuses and faults. Begin with `main`.
 #![tactic(auto)]
 
+mod accept;
 mod arguments;
+mod check;
 mod control;
+mod diff;
+mod downs;
 mod draw;
 mod flat;
 mod formatted;
@@ -20,11 +24,11 @@ mod trees;
 use arguments::{arguments_of, refuse};
 use formatted::Output;
 use pb_cli::{CommandLine, InitOptions, ReportOptions, RunOptions, command_line_of};
-use pb_cmd_check::{run_check, run_show};
+use pb_cmd_check::run_show;
 use pb_cmd_init::{Topology, write_plan};
 use pb_cmd_run::{RunSettings, Strictness, Traffic, run_network};
 use pb_cmd_step::run_script;
-use pb_export::{CHECK, COUNTS, RUN, STEP};
+use pb_export::{COUNTS, RUN, STEP};
 use pb_messages::CommandFault;
 use pb_plan_spans::refused_at;
 use progress::{RunMonitor, Shown};
@@ -54,7 +58,7 @@ fn main(rt: HostRuntime) -> ExitCode {
     };
     match command_line_of(rt.alloc(), arguments.as_slice()) {
         Ok(Some(CommandLine::Flat(ports))) => flat::flat(&rt, ports),
-        Ok(Some(CommandLine::Check(options))) => check(&rt, &options),
+        Ok(Some(CommandLine::Check(options))) => check::check(&rt, &options),
         Ok(Some(CommandLine::Step(options))) => step(&rt, &options),
         Ok(Some(CommandLine::Run(options))) => {
             let mut errors = rt.stderr();
@@ -67,6 +71,9 @@ fn main(rt: HostRuntime) -> ExitCode {
         Ok(Some(CommandLine::Init(options))) => init(&rt, options),
         Ok(Some(CommandLine::Survive(options))) => {
             survive::tell_survivals(&rt, &options, rt.stderr().is_terminal())
+        }
+        Ok(Some(CommandLine::Diff(options))) => {
+            diff::tell_diff(&rt, &options, rt.stderr().is_terminal())
         }
         Ok(Some(CommandLine::Draw(options))) => draw::draw_network(&rt, &options),
         Ok(Some(CommandLine::Control(options))) => control::control(&rt, &options),
@@ -102,29 +109,6 @@ fn contents<R: Files + Eprint + AllocGlobal, W: Write>(
         Ok(_) => Ok(octets),
         Err(e) if e.kind() == ErrorKind::OutOfMemory => Err(tell_on(out, CommandFault::Memory)),
         Err(_) => Err(tell_on(out, CommandFault::Read)),
-    }
-}
-
-/// Validates a plan file, and prints the report in the form of the options. Returns the exit status.
-fn check<R: Files + Print + Eprint + AllocGlobal>(rt: &R, options: &ReportOptions) -> ExitCode {
-    let mut out = Output::new(rt, options.format);
-    let status = check_on(rt, options.path.as_str(), &mut out);
-    out.end(&CHECK, None, status)
-}
-
-/// Validates a plan file, and writes the report. Returns the exit status.
-fn check_on<R: Files + Eprint + AllocGlobal, W: Write>(
-    rt: &R,
-    path: &str,
-    out: &mut W,
-) -> ExitCode {
-    let file = match contents(rt, path, out) {
-        Ok(file) => file,
-        Err(status) => return status,
-    };
-    match run_check(rt.alloc(), file.as_slice(), out) {
-        Err(fault) => tell_on(out, fault),
-        Ok(status) => ended(rt, path, file.as_slice(), status),
     }
 }
 

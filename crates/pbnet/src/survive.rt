@@ -1,9 +1,11 @@
 //! The command `survive`.
 
+use crate::accept::{AcceptEnd, acceptances_of};
 use crate::formatted::Output;
 use crate::looks::Looks;
 use crate::telling::tell_on;
 use crate::{contents, ended};
+use pb_accept::Acceptance;
 use pb_cli::{SurviveOptions, SurviveScope};
 use pb_cmd_survive::{Asked, Kinds, Scope, run_survive};
 use pb_export::{FAILURES, SURVIVE};
@@ -30,26 +32,15 @@ pub(crate) fn tell_survivals<R: Files + Threads + Clock + Print + Eprint + Alloc
     is_shown: bool,
 ) -> ExitCode {
     let mut out = Output::new(rt, options.format);
-    let status = tell_survivals_on(rt, options, is_shown, &mut out);
-    out.end(&SURVIVE, Some(&FAILURES), status)
+    match tell_survivals_on(rt, options, is_shown, &mut out) {
+        Ok(status) => out.end(&SURVIVE, Some(&FAILURES), status),
+        Err(status) => status,
+    }
 }
 
-/// Writes the report on the network of a plan file under failures. Returns the exit status.
-fn tell_survivals_on<R, W: Write>(
-    rt: &R,
-    options: &SurviveOptions,
-    is_shown: bool,
-    out: &mut W,
-) -> ExitCode
-where
-    R: Files + Threads + Clock + Eprint + AllocGlobal + Sync,
-{
-    let path = options.path.as_str();
-    let file = match contents(rt, path, out) {
-        Ok(file) => file,
-        Err(status) => return status,
-    };
-    let asked = Asked {
+/// Returns what is asked for, with these acceptances.
+fn asked_of<'a>(options: &'a SurviveOptions, accepted: &'a [Acceptance]) -> Asked<'a> {
+    Asked {
         kinds: Kinds {
             bridges: options.bridges,
             pairs: options.pairs,
@@ -57,10 +48,40 @@ where
         scope: scope_of(&options.scope),
         own: options.own,
         ticks: options.ticks,
+        accepted,
+        strict: options.strict,
+        as_tables: options.prints_accept,
+    }
+}
+
+/// Writes the report on the network of a plan file under failures. Returns the exit status.
+///
+/// # Errors
+///
+/// The exit status 2, after a message, if the file of `--accept` is refused. Nothing was written then.
+fn tell_survivals_on<R, W: Write>(
+    rt: &R,
+    options: &SurviveOptions,
+    is_shown: bool,
+    out: &mut W,
+) -> Result<ExitCode, ExitCode>
+where
+    R: Files + Threads + Clock + Eprint + AllocGlobal + Sync,
+{
+    let path = options.path.as_str();
+    let file = match contents(rt, path, out) {
+        Ok(file) => file,
+        Err(status) => return Ok(status),
     };
-    let looks = Looks::new(rt, is_shown);
+    let accepted = match acceptances_of(rt, path, file.as_slice(), options.accept.as_ref(), out) {
+        Ok(accepted) => accepted,
+        Err(AcceptEnd::Told(status)) => return Ok(status),
+        Err(AcceptEnd::Refused(status)) => return Err(status),
+    };
+    let asked = asked_of(options, accepted.as_slice());
+    let looks = Looks::new(rt, "survive", is_shown);
     match run_survive(rt, rt.alloc(), file.as_slice(), &asked, &looks, out) {
-        Err(fault) => tell_on(out, fault),
-        Ok(status) => ended(rt, path, file.as_slice(), status),
+        Err(fault) => Ok(tell_on(out, fault)),
+        Ok(status) => Ok(ended(rt, path, file.as_slice(), status)),
     }
 }

@@ -1,10 +1,11 @@
 //! The command `trace`.
 
+use crate::downs::refuse_down;
 use crate::formatted::Output;
 use crate::telling::{WRONG_ARGUMENTS, tell_on};
 use crate::{REFUSED, contents, ended};
 use pb_cli::{TraceEntry, TraceOptions};
-use pb_cmd_trace::{Entry, TraceEnd, run_trace};
+use pb_cmd_trace::{Asked, Entry, TraceEnd, run_trace};
 use pb_export::TRACE;
 use pb_messages::CommandFault;
 use std::alloc::{AllocError, Global};
@@ -33,36 +34,43 @@ pub(crate) fn trace<R: Files + Print + Eprint + AllocGlobal>(
     options: &TraceOptions,
 ) -> ExitCode {
     let mut out = Output::new(rt, options.format);
-    let status = trace_on(rt, options, &mut out);
-    out.end(&TRACE, None, status)
+    match trace_on(rt, options, &mut out) {
+        Ok(status) => out.end(&TRACE, None, status),
+        Err(status) => status,
+    }
 }
 
 /// Writes the trace of frames through the network of a plan file. Returns the exit status.
+///
+/// # Errors
+///
+/// The exit status 2, after a message, if a name of `--down`, a customer port or a frame is refused. Nothing was
+/// written then.
 fn trace_on<R: Files + Eprint + AllocGlobal, W: Write>(
     rt: &R,
     options: &TraceOptions,
     out: &mut W,
-) -> ExitCode {
+) -> Result<ExitCode, ExitCode> {
     let path = options.path.as_str();
     let file = match contents(rt, path, out) {
         Ok(file) => file,
-        Err(status) => return status,
+        Err(status) => return Ok(status),
     };
     let Ok(entries) = entries_of(rt.alloc(), options.entries.as_slice()) else {
-        return tell_on(out, CommandFault::Memory);
+        return Ok(tell_on(out, CommandFault::Memory));
     };
-    match run_trace(
-        rt.alloc(),
-        file.as_slice(),
-        entries.as_slice(),
-        options.settles,
-        out,
-    ) {
-        Err(fault) => tell_on(out, fault),
-        Ok(TraceEnd::Told) => ExitCode::SUCCESS,
-        Ok(TraceEnd::Refused) => ended(rt, path, file.as_slice(), REFUSED),
-        Ok(TraceEnd::NoPort(index)) => no_port(rt, entries.as_slice(), index),
-        Ok(TraceEnd::NoFrame(index)) => no_frame(rt, entries.as_slice(), index),
+    let asked = Asked {
+        entries: entries.as_slice(),
+        downs: options.downs.as_slice(),
+        settle: options.settle,
+    };
+    match run_trace(rt.alloc(), file.as_slice(), &asked, out) {
+        Err(fault) => Ok(tell_on(out, fault)),
+        Ok(TraceEnd::Told) => Ok(ExitCode::SUCCESS),
+        Ok(TraceEnd::Refused) => Ok(ended(rt, path, file.as_slice(), REFUSED)),
+        Ok(TraceEnd::NoDown(fault)) => Err(refuse_down(rt, file.as_slice(), asked.downs, fault)),
+        Ok(TraceEnd::NoPort(index)) => Err(no_port(rt, entries.as_slice(), index)),
+        Ok(TraceEnd::NoFrame(index)) => Err(no_frame(rt, entries.as_slice(), index)),
     }
 }
 

@@ -13,11 +13,19 @@ const PLAN: &[Slot] = slots![
     ("ports", Kind::Number, ""),
 ];
 
+/// A warning about the plan, with the line of its file.
+const WARNING_AT: &[Slot] = slots![("line", Kind::Number, ": "), ("message", Kind::Text, ""),];
+
+/// A warning about the plan, if the line of its file is uncertain.
+const WARNING: &[Slot] = slots![("message", Kind::Text, ""),];
+
 /// The lines.
 const LINES: &[Template] = &[
     template!("plan", "ok bridges ", PLAN),
     FOREST,
     LOOP,
+    template!("warnings", "warning: file:", WARNING_AT),
+    template!("warnings", "warning: file: ", WARNING),
     FAULT,
     NAMED_PLAN_FAULT,
     PLAN_FAULT,
@@ -28,6 +36,7 @@ const LINES: &[Template] = &[
 const LISTS: &[ListForm] = &[
     list!("plan", ListShape::Single, &[]),
     LOOPS,
+    list!("warnings", ListShape::Objects, &[]),
     PLAN_FAULTS,
     OTHERS,
 ];

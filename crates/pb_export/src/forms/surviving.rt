@@ -20,7 +20,10 @@ const SETTLED: &[Choice] = choices![
 ];
 
 /// The network survives.
-const SURVIVES: &[Choice] = choices![("every single failure", Said::Yes),];
+const SURVIVES: &[Choice] = choices![
+    ("every single failure", Said::Yes),
+    ("every failure that is not accepted", Said::Yes),
+];
 
 /// Some failures do harm.
 const PARTS: &[Choice] = choices![(" failures disconnect a service", Said::No),];
@@ -50,6 +53,15 @@ const SERVICE_FAULTS: &[Choice] = choices![
     ("has fewer than two ports", Said::Word("too few ports")),
 ];
 
+/// The failure is accepted.
+const IS_ACCEPTED: &[Choice] = choices![("accepted ", Said::Yes), ("", Said::Nothing),];
+
+/// Whether an acceptance is stale or untried.
+const STATES: &[Choice] = choices![
+    ("stale", Said::Word("stale")),
+    ("untried", Said::Word("untried")),
+];
+
 /// The network with nothing down.
 const CALM: &[Slot] = slots![
     ("settled", Kind::OneOf(SETTLED), ""),
@@ -62,6 +74,7 @@ const CALM_GIVEN: &[Slot] = slots![("forest", Kind::OneOf(YES_OR_NO), ""),];
 
 /// One link or bridge is down.
 const ONE: &[Slot] = slots![
+    ("accepted", Kind::OneOf(IS_ACCEPTED), ""),
     ("down", Kind::OneOf(ONE_DOWN), ""),
     ("name", Kind::Text, " down: "),
     ("settled", Kind::OneOf(SETTLED), ""),
@@ -71,6 +84,7 @@ const ONE: &[Slot] = slots![
 
 /// One link or bridge is down, and the plan gives the states.
 const ONE_GIVEN: &[Slot] = slots![
+    ("accepted", Kind::OneOf(IS_ACCEPTED), ""),
     ("down", Kind::OneOf(ONE_DOWN), ""),
     ("name", Kind::Text, " down: states given forest "),
     ("forest", Kind::OneOf(YES_OR_NO), ""),
@@ -78,6 +92,7 @@ const ONE_GIVEN: &[Slot] = slots![
 
 /// Two links are down.
 const TWO: &[Slot] = slots![
+    ("accepted", Kind::OneOf(IS_ACCEPTED), ""),
     ("down", Kind::OneOf(TWO_DOWN), ""),
     ("name", Kind::Text, " "),
     ("other", Kind::Text, " down: "),
@@ -88,6 +103,7 @@ const TWO: &[Slot] = slots![
 
 /// Two links are down, and the plan gives the states.
 const TWO_GIVEN: &[Slot] = slots![
+    ("accepted", Kind::OneOf(IS_ACCEPTED), ""),
     ("down", Kind::OneOf(TWO_DOWN), ""),
     ("name", Kind::Text, " "),
     ("other", Kind::Text, " down: states given forest "),
@@ -120,7 +136,8 @@ const HEALTHY: &[Slot] = slots![("healthy", Kind::OneOf(IS_HEALTHY), ""),];
 
 /// Services are not healthy with nothing down.
 const UNHEALTHY: &[Slot] = slots![
-    ("unhealthy_services", Kind::Number, " services"),
+    ("unhealthy_services", Kind::Number, " service"),
+    ("", Kind::Plural, ""),
     ("healthy", Kind::OneOf(IS_UNHEALTHY), ""),
     ("survives", Kind::OneOf(NEVER), ""),
 ];
@@ -132,25 +149,35 @@ const SERVICELESS: &[Slot] = slots![
 ];
 
 /// Links failed.
-const LINKS: &[Slot] = slots![("checked_links", Kind::Number, " links"),];
+const LINKS: &[Slot] = slots![
+    ("checked_links", Kind::Number, " link"),
+    ("", Kind::Plural, ""),
+];
 
 /// Links and bridges failed.
 const LINKS_BRIDGES: &[Slot] = slots![
-    ("checked_links", Kind::Number, " links, "),
-    ("checked_bridges", Kind::Number, " bridges"),
+    ("checked_links", Kind::Number, " link"),
+    ("", Kind::Plural, ", "),
+    ("checked_bridges", Kind::Number, " bridge"),
+    ("", Kind::Plural, ""),
 ];
 
 /// Links and pairs of links failed.
 const LINKS_PAIRS: &[Slot] = slots![
-    ("checked_links", Kind::Number, " links, "),
-    ("checked_pairs", Kind::Number, " pairs"),
+    ("checked_links", Kind::Number, " link"),
+    ("", Kind::Plural, ", "),
+    ("checked_pairs", Kind::Number, " pair"),
+    ("", Kind::Plural, ""),
 ];
 
 /// Links, bridges and pairs of links failed.
 const LINKS_BRIDGES_PAIRS: &[Slot] = slots![
-    ("checked_links", Kind::Number, " links, "),
-    ("checked_bridges", Kind::Number, " bridges, "),
-    ("checked_pairs", Kind::Number, " pairs"),
+    ("checked_links", Kind::Number, " link"),
+    ("", Kind::Plural, ", "),
+    ("checked_bridges", Kind::Number, " bridge"),
+    ("", Kind::Plural, ", "),
+    ("checked_pairs", Kind::Number, " pair"),
+    ("", Kind::Plural, ""),
 ];
 
 /// How many failures disconnect nothing.
@@ -164,9 +191,18 @@ const SPARING: &[Slot] = slots![
 ];
 
 /// The most ticks to convergence after a failure.
-const CONVERGING: &[Slot] = slots![("most_ticks", Kind::Number, " ticks"),];
+const CONVERGING: &[Slot] = slots![
+    ("most_ticks", Kind::Number, " tick"),
+    ("", Kind::Plural, ""),
+];
 
-/// How many failures disconnect a service.
+/// How many failures are accepted.
+const EXCUSED: &[Slot] = slots![
+    ("are_accepted", Kind::Number, " of "),
+    ("failures_tried", Kind::Number, " failures are accepted"),
+];
+
+/// How many failures disconnect a service and are not accepted.
 const PARTING: &[Slot] = slots![
     ("part_a_service", Kind::Number, " of "),
     ("failures_tried", Kind::Number, ""),
@@ -185,6 +221,12 @@ const UNSETTLED: &[Slot] = slots![
     ("do_not_converge", Kind::Number, " of "),
     ("failures_tried", Kind::Number, ""),
     ("survives", Kind::OneOf(KEEPS_GOING), ""),
+];
+
+/// An acceptance that is stale or untried.
+const ACCEPTANCE: &[Slot] = slots![
+    ("state", Kind::OneOf(STATES), " acceptance: "),
+    ("accepts", Kind::Text, ""),
 ];
 
 /// That the network survives.
@@ -222,9 +264,11 @@ const LINES: &[Template] = &[
     template!("", "checked ", LINKS_BRIDGES_PAIRS),
     template!("", "", SPARING),
     template!("", "converges within ", CONVERGING),
+    template!("", "", EXCUSED),
     template!("", "", PARTING),
     template!("", "", LOOPING),
     template!("", "", UNSETTLED),
+    template!("acceptances", "", ACCEPTANCE),
     template!("", "survives ", SURVIVING),
     template!("no_such", "no such service ", NO_SERVICE),
     template!("no_such", "no such port ", NO_PORT),
@@ -246,6 +290,7 @@ const LISTS: &[ListForm] = &[
         ListShape::Objects,
         &["loops", "services", "cut_off"]
     ),
+    list!("acceptances", ListShape::Objects, &[]),
     list!("no_such", ListShape::Single, &[]),
     PLAN_FAULTS,
     OTHERS,
@@ -258,7 +303,9 @@ pub const SURVIVE: Form = Form {
 };
 
 /// The titles of the columns.
-const TITLES: &[&str] = &["down", "name", "other", "settled", "ticks", "forest"];
+const TITLES: &[&str] = &[
+    "down", "name", "other", "settled", "ticks", "forest", "accepted",
+];
 
 /// A failure.
 const CELLS: &[Cell] = &[
@@ -268,6 +315,7 @@ const CELLS: &[Cell] = &[
     Cell::Held("settled"),
     Cell::Held("ticks"),
     Cell::Held("forest"),
+    Cell::Held("accepted"),
 ];
 
 /// The lines of the table.

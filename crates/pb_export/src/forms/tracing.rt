@@ -17,7 +17,7 @@ const SOURCES: &[Choice] = choices![
     (", source known", Said::Word("known")),
     (", source moved", Said::Word("moved")),
     (", table full", Said::Word("table full")),
-    (", source a group", Said::Word("group")),
+    (", source is a group address", Said::Word("group")),
     (", source not learnt", Said::Word("not learnt")),
     ("", Said::Nothing),
 ];
@@ -26,7 +26,7 @@ const SOURCES: &[Choice] = choices![
 const WAYS: &[Choice] = choices![
     (", known", Said::Word("known")),
     (", flooded", Said::Word("flooded")),
-    (", nowhere", Said::Word("nowhere")),
+    (", no egress port", Said::Word("no egress port")),
     ("", Said::Nothing),
 ];
 
@@ -40,10 +40,10 @@ const FILTERED: &[Choice] = choices![("filtered ", Said::Word("filtered")),];
 const BARE: &[Choice] = choices![("untagged", Said::Yes),];
 
 /// The tag was removed.
-const TAKEN_OFF: &[Choice] = choices![("taken off", Said::Word("taken off")),];
+const TAKEN_OFF: &[Choice] = choices![("removed", Said::Word("removed")),];
 
 /// The tag was added.
-const PUT_ON: &[Choice] = choices![("put on", Said::Yes),];
+const PUT_ON: &[Choice] = choices![("added", Said::Yes),];
 
 /// A direction of a link.
 const DIRECTIONS: &[Choice] = choices![("ab", Said::Word("ab")), ("ba", Said::Word("ba")),];
@@ -127,7 +127,7 @@ const TAGGED_RELAYED: &[Slot] = relayed![
     ("service", Kind::Text, " vid "),
     ("vid", Kind::Number, " priority "),
     ("priority", Kind::Number, ", tag "),
-    ("tag_taken_off", Kind::Text, " taken off")
+    ("tag_taken_off", Kind::Text, " removed")
 ];
 
 /// A frame that was filtered, and whose priority tag was removed.
@@ -135,7 +135,7 @@ const TAGGED_FILTERED: &[Slot] = filtered![
     ("service", Kind::Text, " vid "),
     ("vid", Kind::Number, " priority "),
     ("priority", Kind::Number, ", tag "),
-    ("tag_taken_off", Kind::Text, " taken off")
+    ("tag_taken_off", Kind::Text, " removed")
 ];
 
 /// An untagged frame from a link that was relayed.
@@ -203,10 +203,10 @@ const SUMMARY: &[Slot] = slots![
 /// The lines.
 const LINES: &[Template] = &[
     template!("frames", "in ", ENTERED),
-    template!("", "others ", BESIDES),
-    template!("", "goes round over", ROUND),
-    template!("", "left at", SUMMARY),
-    template!("", "left nowhere", SUMMARY),
+    template!("", "other events ", BESIDES),
+    template!("", "loops over", ROUND),
+    template!("", "delivered at", SUMMARY),
+    template!("", "not delivered", SUMMARY),
     SETTLED_AFTER,
     FAULT,
     NAMED_PLAN_FAULT,

@@ -1,0 +1,95 @@
+//! The command `check`.
+
+ghost use Rattle.std.specs.Prelude.{◌≡◌, ◌<◌, ◌&&◌, nat_lt, if◌then◌else◌};
+ghost use Rattle.std.specs.Process.{exit_status};
+
+use crate::formatted::Output;
+use crate::telling::tell_on;
+use crate::{contents, ended};
+use pb_cli::{CheckOptions, ReportFormat};
+use pb_cmd_check::run_check;
+use pb_export::CHECK;
+use pb_messages::CommandFault;
+use pb_warning_lines::put_warnings;
+use std::alloc::Global;
+use std::fs::Files;
+use std::io::Write;
+use std::process::ExitCode;
+
+/// The exit status of `check` for a plan.
+const ACCEPTED: u8 = 0;
+
+/// The exit status of `check --strict` for a plan with warnings.
+const WARNED: u8 = 4;
+
+/// The path of the plan file in the lines from which a document is made.
+const FILE: &str = "file";
+
+/// Validates a plan file, and prints the report in the form of the options. Returns the exit status.
+pub(crate) fn check<R: Files + Print + Eprint + AllocGlobal>(
+    rt: &R,
+    options: &CheckOptions,
+) -> ExitCode {
+    let mut out = Output::new(rt, options.format);
+    let status = check_on(rt, options, &mut out);
+    out.end(&CHECK, None, status)
+}
+
+/// Validates a plan file, writes the report, and prints the warnings on standard error. Returns the exit status.
+fn check_on<R: Files + Eprint + AllocGlobal, W: Write>(
+    rt: &R,
+    options: &CheckOptions,
+    out: &mut W,
+) -> ExitCode {
+    let path = options.path.as_str();
+    let file = match contents(rt, path, out) {
+        Ok(file) => file,
+        Err(status) => return status,
+    };
+    let mut warnings = String::new(rt.alloc());
+    let Ok(count) = put_warnings(rt.alloc(), &mut warnings, path, file.as_slice()) else {
+        return tell_on(out, CommandFault::Memory);
+    };
+    match report_on(rt.alloc(), options.format, file.as_slice(), out) {
+        Err(fault) => tell_on(out, fault),
+        Ok(ACCEPTED) => {
+            let _ = eprint!(rt; "{warnings}");
+            status_of(options.strict, count)
+        }
+        Ok(status) => ended(rt, path, file.as_slice(), status),
+    }
+}
+
+/// Validates a plan file, given as octets, and writes the report. The warnings are in it if it becomes a document.
+/// Returns the exit status. If an allocation fails, nothing was written.
+///
+/// # Errors
+///
+/// `Memory` if an allocation failed. `Write` if a write failed.
+fn report_on<W: Write>(
+    alloc: Global,
+    format: ReportFormat,
+    file: &[u8],
+    out: &mut W,
+) -> Result<u8, CommandFault> {
+    let mut warnings = String::new(alloc);
+    if format != ReportFormat::Text {
+        put_warnings(alloc, &mut warnings, FILE, file)?;
+    }
+    let status = run_check(alloc, file, out)?;
+    if out.write_all(warnings.as_bytes()).is_err() {
+        return Err(CommandFault::Write);
+    }
+    Ok(status)
+}
+
+/// Returns the exit status for a plan with so many warnings.
+fn status_of(is_strict: bool, count: usize) -> ExitCode
+    ensures { exit_status result ≡ (if is_strict && nat_lt 0 count then 4 else 0) }
+{
+    if is_strict && 0 < count {
+        ExitCode::from(WARNED)
+    } else {
+        ExitCode::from(ACCEPTED)
+    }
+}
