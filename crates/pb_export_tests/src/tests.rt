@@ -11,10 +11,10 @@ ghost use Rattle.pb_export.specs.declared.rows.Row.{Row};
 mod reports;
 
 use pb_export::{
-    CHECK, COUNTS, FAILURES, Form, FormatFault, RUN, STEP, SURVIVE, TRACE, TREE, Table, csv_of,
-    json_of,
+    CHECK, COUNTS, DIFF, FAILURES, Form, FormatFault, RUN, STEP, SURVIVE, TRACE, TREE, Table,
+    csv_of, json_of,
 };
-use reports::{CHECKS, RUNS, STEPS, SURVIVALS, TRACES, TREES};
+use reports::{CHANGES, CHECKS, RUNS, STEPS, SURVIVALS, TRACES, TREES};
 use serde_json::Value;
 use std::alloc::Global;
 use std::process::Abort;
@@ -87,6 +87,11 @@ fn survivals_are_said(rt: HostRuntime) -> Result<(), Fail> {
     say(&rt, rt.alloc(), &SURVIVE, SURVIVALS)
 }
 
+#[test]
+fn changes_are_said(rt: HostRuntime) -> Result<(), Fail> {
+    say(&rt, rt.alloc(), &DIFF, CHANGES)
+}
+
 /// Checks that a text that is not a report has no document.
 #[test]
 fn no_reports_are_refused(rt: HostRuntime) -> Result<(), Fail> {
@@ -121,7 +126,8 @@ fn json_is_laid_out(rt: HostRuntime) -> Result<(), Fail> {
     "links": 1,
     "ports": 2,
     "services": 1
-  }
+  },
+  "warnings": []
 }"#;
     assert_eq!(rt; json.as_str(), wanted);
     Ok(())
@@ -161,7 +167,8 @@ fn counts_are_tabled(rt: HostRuntime) -> Result<(), Fail> {
 #[test]
 fn failures_are_tabled(rt: HostRuntime) -> Result<(), Fail> {
     let wanted =
-        "down,name,other,settled,ticks,forest\r\nlink,ring5,,yes,3,yes\r\nlinks,a,b,no,200,no\r\nbridge,B1,,,,yes\r\n";
+        "down,name,other,settled,ticks,forest,accepted\r\nlink,ring5,,yes,3,yes,\r\nlinks,a,b,no,200,no,\r\n\
+            bridge,B1,,,,yes,\r\n";
     tabled(
         &rt,
         rt.alloc(),

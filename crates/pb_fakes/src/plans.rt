@@ -81,6 +81,7 @@ pub const FAILOVER: &str =
 [network]
 spanning = "rstp"
 prompt = true
+tick_ms = 10
 
 [[bridge]]
 name = "B1"

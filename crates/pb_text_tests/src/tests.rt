@@ -2,6 +2,7 @@
 
 mod arguments;
 mod asked;
+mod diff_arguments;
 mod draw_arguments;
 mod format_arguments;
 mod line_words;

@@ -1,8 +1,9 @@
 //! The traces of frames in plan files.
 
+mod failures;
 mod plans;
 
-use pb_cmd_trace::{Entry, TraceEnd, run_trace};
+use pb_cmd_trace::{Asked, Entry, TraceEnd, run_trace};
 use pb_fakes::{Full, Unflushed};
 use pb_messages::CommandFault;
 use std::alloc::{AllocError, Global};
@@ -26,24 +27,61 @@ fn entries_of(alloc: Global, frames: &[(&str, &str)]) -> Result<Vec<Entry>, Allo
     Ok(entries)
 }
 
-/// A plan file, the frames to inject, whether the bridges converge first, the end, and the text.
-type Row<'a> = (&'a str, &'a [(&'a str, &'a str)], bool, TraceEnd, &'a str);
+/// Returns the options for these frames alone.
+fn asked_of(entries: &Vec<Entry>) -> Asked<'_> {
+    Asked {
+        entries: entries.as_slice(),
+        downs: &[],
+        settle: None,
+    }
+}
+
+/// Returns arguments as they are on a command line.
+fn words_of(alloc: Global, texts: &[&str]) -> Result<Vec<String>, AllocError> {
+    let mut words = Vec::new(alloc);
+    for text in texts {
+        words.push(String::from_str(alloc, text)?)?;
+    }
+    Ok(words)
+}
+
+/// A plan file, the frames to inject, the most ticks if the bridges converge first, the end, and the text.
+type Row<'a> = (
+    &'a str,
+    &'a [(&'a str, &'a str)],
+    Option<u32>,
+    TraceEnd,
+    &'a str,
+);
+
+/// Checks the end and the text of a row, after these names are disabled.
+fn is_told(
+    rt: &impl Abort,
+    alloc: Global,
+    number: usize,
+    row: &Row,
+    downs: &[&str],
+) -> Result<(), Fail> {
+    let (plan, frames, settle, end, want) = row;
+    let entries = entries_of(alloc, frames)?;
+    let words = words_of(alloc, downs)?;
+    let asked = Asked {
+        entries: entries.as_slice(),
+        downs: words.as_slice(),
+        settle: *settle,
+    };
+    let mut output = Vec::new(alloc);
+    let told = run_trace(alloc, plan.as_bytes(), &asked, &mut output);
+    assert_eq!(rt; told, Ok(*end), "row {number}");
+    let text = std::str::from_utf8(output.as_slice()).unwrap_or("");
+    assert_eq!(rt; text, *want, "row {number}");
+    Ok(())
+}
 
 /// Checks the end and the text of each row.
 fn tells(rt: &impl Abort, alloc: Global, rows: &[Row]) -> Result<(), Fail> {
-    for (number, (plan, frames, settles, end, want)) in rows.iter().enumerate() {
-        let entries = entries_of(alloc, frames)?;
-        let mut output = Vec::new(alloc);
-        let told = run_trace(
-            alloc,
-            plan.as_bytes(),
-            entries.as_slice(),
-            *settles,
-            &mut output,
-        );
-        assert_eq!(rt; told, Ok(*end), "row {number}");
-        let text = std::str::from_utf8(output.as_slice()).unwrap_or("");
-        assert_eq!(rt; text, *want, "row {number}");
+    for (number, row) in rows.iter().enumerate() {
+        is_told(rt, alloc, number, row, &[])?;
     }
     Ok(())
 }
@@ -52,33 +90,33 @@ fn tells(rt: &impl Abort, alloc: Global, rows: &[Row]) -> Result<(), Fail> {
 const THERE_AND_BACK: &str = "\
 in ffffffffffff02000000010108004142: polled C1 0
   B1 2 from C1, red vid 100 priority 0, source learnt, flooded: relayed 1
-    B1 1 to L1, tag 88a80064 put on
+    B1 1 to L1, tag 88a80064 added
     L1 ab: taken 0
     B2 1 from L1, red vid 100 priority 0, source learnt, flooded: relayed 2
-      B2 2 to C2, tag taken off
+      B2 2 to C2, tag removed
       C2: delivered ffffffffffff02000000010108004142
 in 02000000010102000000020208004344: polled C2 0
   B2 2 from C2, red vid 100 priority 0, source learnt, known: relayed 1
-    B2 1 to L1, tag 88a80064 put on
+    B2 1 to L1, tag 88a80064 added
     L1 ba: taken 0
     B1 1 from L1, red vid 100 priority 0, source learnt, known: relayed 2
-      B1 2 to C1, tag taken off
+      B1 2 to C1, tag removed
       C1: delivered 02000000010102000000020208004344
-left at C1 C2; refused 0; lost 0
+delivered at C1 C2; refused 0; lost 0
 ";
 
 /// A priority tag is removed, and its priority counts. Then a frame to its own sender.
 const PRIORITY: &str = "\
 in ffffffffffff02000000010188a8a00008004142: polled C1 0
-  B1 2 from C1, red vid 100 priority 5, tag 88a8a000 taken off, source learnt, flooded: relayed 1
-    B1 1 to L1, tag 88a8a064 put on
+  B1 2 from C1, red vid 100 priority 5, tag 88a8a000 removed, source learnt, flooded: relayed 1
+    B1 1 to L1, tag 88a8a064 added
     L1 ab: taken 0
     B2 1 from L1, red vid 100 priority 5, source learnt, flooded: relayed 2
-      B2 2 to C2, tag taken off
+      B2 2 to C2, tag removed
       C2: delivered ffffffffffff02000000010108004142
 in 02000000010102000000010108004142: polled C1 1
-  B1 2 from C1, red vid 100 priority 0, source known, nowhere: relayed
-left at C2; refused 0; lost 0
+  B1 2 from C1, red vid 100 priority 0, source known, no egress port: relayed
+delivered at C2; refused 0; lost 0
 ";
 
 /// A tag with a VID, an address that no bridge relays, and too few octets.
@@ -89,33 +127,33 @@ in 0180c200000302000000010108004142: polled C1 1
   B1 2 from C1, red vid 100 priority 0: filtered reserved-3
 in 01: polled C1 2
   B1 2 from C1, red vid 100 priority 0: filtered malformed
-left nowhere; refused 3; lost 0
+not delivered; refused 3; lost 0
 ";
 
 /// A service that the far end of the link does not serve.
 const UNSERVED: &str = "\
 in ffffffffffff02000000010108004142: polled C1 0
   B1 2 from C1, red vid 100 priority 3, source learnt, flooded: relayed 1
-    B1 1 to L1, tag 88a86064 put on
+    B1 1 to L1, tag 88a86064 added
     L1 ab: taken 0
     B2 1 from L1, red vid 100 priority 3: filtered not-member
-left nowhere; refused 1; lost 0
+not delivered; refused 1; lost 0
 ";
 
 /// The second item is lost.
 const LOST: &str = "\
 in ffffffffffff02000000010108004142: polled sender 0
   Near 2 from sender, line vid 100 priority 0, source learnt, flooded: relayed 1
-    Near 1 to fibre, tag 88a80064 put on
+    Near 1 to fibre, tag 88a80064 added
     fibre ab: taken 0
     Far 1 from fibre, line vid 100 priority 0, source learnt, flooded: relayed 2
-      Far 2 to receiver, tag taken off
+      Far 2 to receiver, tag removed
       receiver: delivered ffffffffffff02000000010108004142
 in ffffffffffff02000000010108004142: polled sender 1
   Near 2 from sender, line vid 100 priority 0, source known, flooded: relayed 1
-    Near 1 to fibre, tag 88a80064 put on
+    Near 1 to fibre, tag 88a80064 added
     fibre ab: lost 1
-left at receiver; refused 0; lost 1
+delivered at receiver; refused 0; lost 1
 ";
 
 /// Customers at one bridge: no tag, and a source that moves.
@@ -132,14 +170,14 @@ in ffffffffffff02000000010108004142: polled C2 0
     C1: delivered ffffffffffff02000000010108004142
     B1 3 to C3
     C3: delivered ffffffffffff02000000010108004142
-left at C1 C2 C3; refused 0; lost 0
+delivered at C1 C2 C3; refused 0; lost 0
 ";
 
 /// A broadcast goes both ways round the metro ring, and is filtered at the Discarding port.
 const METRO: &str = "\
 in ffffffffffff02000000010108000001: polled provider 0
   Centre 3 from provider, internet vid 100 priority 0, source learnt, flooded: relayed 1 2
-    Centre 1 to ring1, tag 88a80064 put on
+    Centre 1 to ring1, tag 88a80064 added
     ring1 ab: taken 0
     Harbour 2 from ring1, internet vid 100 priority 0, source learnt, flooded: relayed 1
       Harbour 1 to ring2, tag 88a80064
@@ -148,9 +186,9 @@ in ffffffffffff02000000010108000001: polled provider 0
         Lakeside 1 to ring3, tag 88a80064
         ring3 ab: taken 0
         Station 2 from ring3, internet vid 100 priority 0: filtered not-forwarding
-        Lakeside 3 to shop, tag taken off
+        Lakeside 3 to shop, tag removed
         shop: delivered ffffffffffff02000000010108000001
-    Centre 2 to ring6, tag 88a80064 put on
+    Centre 2 to ring6, tag 88a80064 added
     ring6 ba: taken 0
     Campus 1 from ring6, internet vid 100 priority 0, source learnt, flooded: relayed 2
       Campus 2 to ring5, tag 88a80064
@@ -158,10 +196,10 @@ in ffffffffffff02000000010108000001: polled provider 0
       Airport 1 from ring5, internet vid 100 priority 0, source learnt, flooded: relayed 2 3
         Airport 2 to ring4, tag 88a80064
         ring4 ba: taken 0
-        Station 1 from ring4, internet vid 100 priority 0, source learnt, nowhere: relayed
-        Airport 3 to hotel, tag taken off
+        Station 1 from ring4, internet vid 100 priority 0, source learnt, no egress port: relayed
+        Airport 3 to hotel, tag removed
         hotel: delivered ffffffffffff02000000010108000001
-left at shop hotel; refused 1; lost 0
+delivered at shop hotel; refused 1; lost 0
 ";
 
 /// Bridges that run the protocol converge first: the second link is Discarding at its far end.
@@ -169,22 +207,22 @@ const SETTLED: &str = "\
 settled yes ticks 2
 in ffffffffffff02000000010108004142: polled C1 0
   B1 2 from C1, red vid 100 priority 0, source learnt, flooded: relayed 1 3
-    B1 1 to L1, tag 88a80064 put on
+    B1 1 to L1, tag 88a80064 added
     L1 ab: taken 7
     B2 1 from L1, red vid 100 priority 0, source learnt, flooded: relayed 2
-      B2 2 to C2, tag taken off
+      B2 2 to C2, tag removed
       C2: delivered ffffffffffff02000000010108004142
-    B1 3 to L2, tag 88a80064 put on
+    B1 3 to L2, tag 88a80064 added
     L2 ab: taken 7
     B2 3 from L2, red vid 100 priority 0: filtered not-forwarding
-left at C2; refused 1; lost 0
+delivered at C2; refused 1; lost 0
 ";
 
 /// Before the first tick no port to another bridge is Forwarding.
 const UNSETTLED: &str = "\
 in ffffffffffff02000000010108004142: polled C1 0
-  B1 2 from C1, red vid 100 priority 0, source learnt, nowhere: relayed
-left nowhere; refused 0; lost 0
+  B1 2 from C1, red vid 100 priority 0, source learnt, no egress port: relayed
+not delivered; refused 0; lost 0
 ";
 
 #[test]
@@ -193,7 +231,7 @@ fn frames_are_told_hop_by_hop(rt: HostRuntime) -> Result<(), Fail> {
         (
             plans::TWO,
             &[("C1", BROADCAST), ("C2", REPLY)],
-            false,
+            None,
             TraceEnd::Told,
             THERE_AND_BACK,
         ),
@@ -203,7 +241,7 @@ fn frames_are_told_hop_by_hop(rt: HostRuntime) -> Result<(), Fail> {
                 ("C1", "ffffffffffff02000000010188a8a00008004142"),
                 ("C1", "02000000010102000000010108004142"),
             ],
-            true,
+            Some(200),
             TraceEnd::Told,
             PRIORITY,
         ),
@@ -214,58 +252,58 @@ fn frames_are_told_hop_by_hop(rt: HostRuntime) -> Result<(), Fail> {
                 ("C1", "0180C200000302000000010108004142"),
                 ("C1", "01"),
             ],
-            false,
+            None,
             TraceEnd::Told,
             REFUSED,
         ),
         (
             plans::UNSERVED,
             &[("C1", BROADCAST)],
-            false,
+            None,
             TraceEnd::Told,
             UNSERVED,
         ),
         (
             pb_fakes::plans::LOSSES,
             &[("sender", BROADCAST), ("sender", BROADCAST)],
-            false,
+            None,
             TraceEnd::Told,
             LOST,
         ),
         (
             plans::ONE_BRIDGE,
             &[("C1", BROADCAST), ("C2", BROADCAST)],
-            false,
+            None,
             TraceEnd::Told,
             ONE_BRIDGE,
         ),
         (
             pb_fakes::plans::METRO,
             &[("provider", "ffffffffffff02000000010108000001")],
-            false,
+            None,
             TraceEnd::Told,
             METRO,
         ),
         (
             pb_fakes::plans::FAILOVER,
             &[("C1", BROADCAST)],
-            true,
+            Some(200),
             TraceEnd::Told,
             SETTLED,
         ),
         (
             pb_fakes::plans::FAILOVER,
             &[("C1", BROADCAST)],
-            false,
+            None,
             TraceEnd::Told,
             UNSETTLED,
         ),
         (
             plans::TWO,
             &[],
-            false,
+            None,
             TraceEnd::Told,
-            "left nowhere; refused 0; lost 0\n",
+            "not delivered; refused 0; lost 0\n",
         ),
     ];
     tells(&rt, rt.alloc(), ROWS)
@@ -277,33 +315,33 @@ fn what_is_wrong_is_told(rt: HostRuntime) -> Result<(), Fail> {
         (
             "bridges = []",
             &[("C1", BROADCAST)],
-            false,
+            None,
             TraceEnd::Refused,
             "plan: 6 unknown bridges\n",
         ),
         (
             plans::TWO,
             &[("C9", BROADCAST)],
-            false,
+            None,
             TraceEnd::NoPort(0),
             "",
         ),
         (
             plans::TWO,
             &[("C1", BROADCAST), ("c2", REPLY)],
-            false,
+            None,
             TraceEnd::NoPort(1),
             "",
         ),
-        (plans::TWO, &[("C1", "")], false, TraceEnd::NoFrame(0), ""),
+        (plans::TWO, &[("C1", "")], None, TraceEnd::NoFrame(0), ""),
         (
             plans::TWO,
             &[("C1", BROADCAST), ("C2", "fff")],
-            false,
+            None,
             TraceEnd::NoFrame(1),
             "",
         ),
-        (plans::TWO, &[("C9", "0g")], false, TraceEnd::NoFrame(0), ""),
+        (plans::TWO, &[("C9", "0g")], None, TraceEnd::NoFrame(0), ""),
     ];
     tells(&rt, rt.alloc(), ROWS)
 }
@@ -319,21 +357,15 @@ fn lines_and_end(text: &str, end: &str) -> (usize, bool) {
 /// the frame comes back 83 times, and the queue of the customer port there holds 64 copies, or one.
 #[test]
 fn a_frame_that_goes_round_is_told_so(rt: HostRuntime) -> Result<(), Fail> {
-    const ROUND: &str = "goes round over L1 L2 L3; ended after 1000 events\n";
+    const ROUND: &str = "loops over L1 L2 L3; ended after 1000 events\n";
     let alloc = rt.alloc();
     for (plan, refused) in [(plans::RING, 19), (plans::NARROW_RING, 82)] {
         let entries = entries_of(alloc, &[("C1", BROADCAST), ("C9", BROADCAST)])?;
         let mut output = Vec::new(alloc);
-        let told = run_trace(
-            alloc,
-            plan.as_bytes(),
-            entries.as_slice(),
-            false,
-            &mut output,
-        );
+        let told = run_trace(alloc, plan.as_bytes(), &asked_of(&entries), &mut output);
         assert_eq!(rt; told, Ok(TraceEnd::Told));
         let text = std::str::from_utf8(output.as_slice()).unwrap_or("");
-        let end = format!(in alloc; "{ROUND}left nowhere; refused {refused}; lost 0\n")?;
+        let end = format!(in alloc; "{ROUND}not delivered; refused {refused}; lost 0\n")?;
         assert_eq!(rt;
             lines_and_end(text, end.as_str()),
             (2 + 249 * 3 + 2 + 2, true),
@@ -348,15 +380,10 @@ fn writes_that_fail_are_told(rt: HostRuntime) -> Result<(), Fail> {
     let alloc = rt.alloc();
     let entries = entries_of(alloc, &[("C1", BROADCAST)])?;
     let file = plans::TWO.as_bytes();
-    let told = run_trace(
-        alloc,
-        file,
-        entries.as_slice(),
-        false,
-        &mut Full { room: 5 },
-    );
+    let asked = asked_of(&entries);
+    let told = run_trace(alloc, file, &asked, &mut Full { room: 5 });
     assert_eq!(rt; told, Err(CommandFault::Write));
-    let told = run_trace(alloc, file, entries.as_slice(), false, &mut Unflushed);
+    let told = run_trace(alloc, file, &asked, &mut Unflushed);
     assert_eq!(rt; told, Err(CommandFault::Write));
     Ok(())
 }

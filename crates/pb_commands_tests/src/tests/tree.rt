@@ -2,7 +2,7 @@
 
 mod drawn;
 
-use pb_cmd_tree::{TreeEnd, run_tree};
+use pb_cmd_tree::{DownFault, TreeEnd, run_tree};
 use pb_fakes::{Full, Unflushed};
 use pb_messages::CommandFault;
 use std::alloc::{AllocError, Global};
@@ -56,6 +56,55 @@ forest yes\n\
 service red bridge B2 up L2 depth 1\n\
 ";
 
+/// The trees without L1, both ends of which are disabled.
+const WITHOUT_LINK: &str = "\
+bridge B1\n\
+port B1 1 link L1 discarding\n\
+port B1 2 link L3 forwarding\n\
+bridge B2\n\
+port B2 1 link L2 forwarding\n\
+port B2 2 link L1 discarding\n\
+bridge B3\n\
+port B3 1 link L3 discarding\n\
+port B3 2 link L2 forwarding\n\
+forest yes\n\
+service red bridge B2 up L2 depth 1\n\
+";
+
+/// The trees without the links L1 and L2 of the bridge B2.
+const WITHOUT_BRIDGE: &str = "\
+bridge B1\n\
+port B1 1 link L1 discarding\n\
+port B1 2 link L3 forwarding\n\
+bridge B2\n\
+port B2 1 link L2 discarding\n\
+port B2 2 link L1 discarding\n\
+bridge B3\n\
+port B3 1 link L3 discarding\n\
+port B3 2 link L2 discarding\n\
+forest yes\n\
+";
+
+/// A bridge B1 without a link, and a link B2 at a bridge B2.
+const SAME_NAMES: &str = "\
+bridge = [\n\
+  { name = \"B1\", address = \"02-00-00-00-00-01\" },\n\
+  { name = \"B2\", address = \"02-00-00-00-00-02\" },\n\
+  { name = \"B3\", address = \"02-00-00-00-00-03\" },\n\
+]\n\
+link = [{ name = \"B2\", a = \"B2\", a_port = 1, b = \"B3\", b_port = 1 }]\n\
+";
+
+/// The bridges of `SAME_NAMES` without a tree, after both ends of the link B2 are disabled.
+const SAME_NAMES_TREES: &str = "\
+bridge B1\n\
+bridge B2\n\
+port B2 1 link B2 discarding\n\
+bridge B3\n\
+port B3 1 link B2 discarding\n\
+forest yes\n\
+";
+
 /// Three links between two bridges. L1 and L3 form a loop for the service red, and L2 carries no service.
 const RING: &str = "\
 bridge = [{ name = \"B1\", address = \"02-00-00-00-00-01\" }, { name = \"B2\", address = \"02-00-00-00-00-02\" }]\n\
@@ -90,7 +139,7 @@ fn words_of(alloc: Global, texts: &[&str]) -> Result<Vec<String>, AllocError> {
     Ok(words)
 }
 
-/// A plan file, the ports to disable, the most ticks, the end, and the text.
+/// A plan file, the names to disable, the most ticks, the end, and the text.
 type Row<'a> = (&'a str, &'a [&'a str], u32, TreeEnd, &'a str);
 
 /// Checks the end and the text of each row.
@@ -130,6 +179,34 @@ fn trees_are_as_drawn(rt: HostRuntime) -> Result<(), Fail> {
             200,
             TreeEnd::Told,
             drawn::TWO_DOWN_TREES,
+        ),
+        (
+            drawn::ONE,
+            &["b"],
+            200,
+            TreeEnd::Told,
+            drawn::ONE_LINK_TREES,
+        ),
+        (
+            drawn::ONE,
+            &["B0:2", "B2:1"],
+            200,
+            TreeEnd::Told,
+            drawn::ONE_LINK_TREES,
+        ),
+        (
+            drawn::ONE,
+            &["B1"],
+            200,
+            TreeEnd::Told,
+            drawn::ONE_BRIDGE_TREES,
+        ),
+        (
+            drawn::ONE,
+            &["a", "c", "B1", "B1:2"],
+            200,
+            TreeEnd::Told,
+            drawn::ONE_BRIDGE_TREES,
         ),
         (
             drawn::TWO,
@@ -175,6 +252,23 @@ fn given_trees_are_told(rt: HostRuntime) -> Result<(), Fail> {
     const ROWS: &[Row] = &[
         (GIVEN, &[], 200, TreeEnd::Told, GIVEN_TREES),
         (GIVEN, &["B2:2"], 0, TreeEnd::Told, LESS),
+        (GIVEN, &["L1"], 0, TreeEnd::Told, WITHOUT_LINK),
+        (GIVEN, &["B2"], 0, TreeEnd::Told, WITHOUT_BRIDGE),
+        (GIVEN, &["L2", "L1"], 0, TreeEnd::Told, WITHOUT_BRIDGE),
+        (
+            SAME_NAMES,
+            &["B1", "B3"],
+            0,
+            TreeEnd::Told,
+            SAME_NAMES_TREES,
+        ),
+        (
+            SAME_NAMES,
+            &["B2:1", "B3:1"],
+            0,
+            TreeEnd::Told,
+            SAME_NAMES_TREES,
+        ),
         (RING, &[], 200, TreeEnd::Told, RING_TREES),
         ("", &[], 200, TreeEnd::Told, "forest yes\n"),
     ];
@@ -214,11 +308,31 @@ fn what_is_wrong_is_told(rt: HostRuntime) -> Result<(), Fail> {
             TreeEnd::Refused,
             "plan: 6 unknown bridges\n",
         ),
-        (drawn::ONE, &["B9:1"], 200, TreeEnd::NoPort(0), ""),
-        (drawn::ONE, &["B2:1", "B2:3"], 200, TreeEnd::NoPort(1), ""),
-        (drawn::ONE, &["B2:01"], 200, TreeEnd::NoPort(0), ""),
-        (drawn::ONE, &["B2"], 200, TreeEnd::NoPort(0), ""),
-        (drawn::ONE, &[""], 200, TreeEnd::NoPort(0), ""),
+    ];
+    tells(&rt, rt.alloc(), ROWS)
+}
+
+#[test]
+fn wrong_names_are_refused(rt: HostRuntime) -> Result<(), Fail> {
+    const FIRST: TreeEnd = TreeEnd::NoDown(DownFault::Unknown(0));
+    const SECOND: TreeEnd = TreeEnd::NoDown(DownFault::Unknown(1));
+    const ROWS: &[Row] = &[
+        (drawn::ONE, &["B9:1"], 200, FIRST, ""),
+        (drawn::ONE, &["B2:1", "B2:3"], 200, SECOND, ""),
+        (drawn::ONE, &["B2:01"], 200, FIRST, ""),
+        (drawn::ONE, &["B2:"], 200, FIRST, ""),
+        (drawn::ONE, &["b2"], 200, FIRST, ""),
+        (drawn::ONE, &["A"], 200, FIRST, ""),
+        (drawn::ONE, &["a", "d"], 200, SECOND, ""),
+        (drawn::ONE, &[""], 200, FIRST, ""),
+        (GIVEN, &["red"], 0, FIRST, ""),
+        (
+            SAME_NAMES,
+            &["B3", "B2"],
+            0,
+            TreeEnd::NoDown(DownFault::Ambiguous(1)),
+            "",
+        ),
     ];
     tells(&rt, rt.alloc(), ROWS)
 }

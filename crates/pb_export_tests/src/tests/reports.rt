@@ -10,43 +10,64 @@ pub(super) const COUNTED: &str =
 /// A network under failures.
 pub(super) const FAILED: &str =
     "nothing down: settled ticks 3 forest no\n  loop red\n  service red: C1 C2 | C3 | C4\n\
-    service red is disconnected\nservice red has a forwarding loop\nnot healthy with nothing down: 1 services\n\
+    service red is disconnected\nservice red has a forwarding loop\nnot healthy with nothing down: 1 service\n\
     link ring5 down: settled ticks 3 forest yes\n  service red: C1 | C2\n\
     links a b down: not settled ticks 200 forest no\n  C1 cut off from: C2 C3\n\
     bridge B1 down: states given forest yes\nchecked 5 links, 3 bridges, 2 pairs\n\
     7 of 10 failures disconnect nothing\nconverges within 7 ticks\n3 of 10 failures disconnect a service\n\
     1 of 10 failures form a forwarding loop\n2 of 10 failures do not converge\n\
-    not healthy with nothing down: 1 services\n";
+    not healthy with nothing down: 1 service\n";
+
+/// A report of `survive` with accepted failures, and with acceptances that are not needed.
+const ACCEPTED: &str =
+    "nothing down: states given forest yes\n  service red: C1 C2\nhealthy with nothing down\n\
+    accepted link leaf down: settled ticks 3 forest yes\n  service red: C1 | C2\n\
+    link a down: states given forest yes\n  service red: C1 | C2\n\
+    accepted links a leaf down: states given forest yes\n  C1 cut off from: C2\n\
+    checked 4 links, 6 pairs\n8 of 10 failures disconnect nothing\n2 of 10 failures are accepted\n\
+    stale acceptance: link b service red\nstale acceptance: bridge B1\n\
+    stale acceptance: links a b service red\nuntried acceptance: bridge B2 service red\n\
+    untried acceptance: links b c\nsurvives every failure that is not accepted\n";
 
 /// Reports of `check`.
 pub(super) const CHECKS: &[Said] = &[
     Said {
         text: "ok bridges 2 links 1 services 1 ports 2\nforest yes\n",
-        json: r#"{"plan": {"bridges": 2, "links": 1, "services": 1, "ports": 2}, "forest": true, "loops": []}"#,
+        json: r#"{"plan": {"bridges": 2, "links": 1, "services": 1, "ports": 2}, "forest": true,
+            "loops": [], "warnings": []}"#,
     },
     Said {
         text: "ok bridges 3 links 3 services 2 ports 4\nforest no\nloop red\n",
-        json: r#"{"plan": {"bridges": 3, "links": 3, "services": 2, "ports": 4}, "forest": false, "loops": ["red"]}"#,
+        json: r#"{"plan": {"bridges": 3, "links": 3, "services": 2, "ports": 4}, "forest": false,
+            "loops": ["red"], "warnings": []}"#,
+    },
+    Said {
+        text: "ok bridges 2 links 1 services 2 ports 2\nforest yes\nwarning: file:26: service \"blue\" has no port\n\
+            warning: file: bridge \"B1\" has no links\n",
+        json: r#"{"plan": {"bridges": 2, "links": 1, "services": 2, "ports": 2}, "forest": true, "loops": [],
+            "warnings": [{"line": 26, "message": "service \"blue\" has no port"},
+                {"message": "bridge \"B1\" has no links"}]}"#,
     },
     Said {
         text: "plan: 3 missing bridge.name\n",
-        json: r#"{"plan_fault": {"rule": 3, "fault": "missing", "name": "bridge.name"}, "loops": []}"#,
+        json: r#"{"plan_fault": {"rule": 3, "fault": "missing", "name": "bridge.name"}, "loops": [], "warnings": []}"#,
     },
     Said {
         text: "plan: 1 utf8\n",
-        json: r#"{"plan_fault": {"rule": 1, "fault": "utf8"}, "loops": []}"#,
+        json: r#"{"plan_fault": {"rule": 1, "fault": "utf8"}, "loops": [], "warnings": []}"#,
     },
     Said {
         text: "plan: 6 unknown a\nb \"c\"\n",
-        json: r#"{"plan_fault": {"rule": 6, "fault": "unknown", "name": "a"}, "loops": [], "other": ["b \"c\""]}"#,
+        json: r#"{"plan_fault": {"rule": 6, "fault": "unknown", "name": "a"},
+            "loops": [], "warnings": [], "other": ["b \"c\""]}"#,
     },
     Said {
         text: "fault: path\n",
-        json: r#"{"fault": "path", "loops": []}"#,
+        json: r#"{"fault": "path", "loops": [], "warnings": []}"#,
     },
     Said {
         text: "",
-        json: r#"{"loops": []}"#,
+        json: r#"{"loops": [], "warnings": []}"#,
     },
 ];
 
@@ -83,12 +104,12 @@ pub(super) const STEPS: &[Said] = &[Said {
 pub(super) const TRACES: &[Said] = &[
     Said {
         text: "settled yes ticks 3\n\
-            in ffff: polled C1 0\n  B1 2 from C1, red vid 100 priority 5, tag 88a80000 taken off, source learnt, \
-            flooded: relayed 1 3 full 4 memory 5\n    B1 1 to L1, tag 88a80064 put on\n    L1 ab: taken 0\n    B2 1 \
+            in ffff: polled C1 0\n  B1 2 from C1, red vid 100 priority 5, tag 88a80000 removed, source learnt, \
+            flooded: relayed 1 3 full 4 memory 5\n    B1 1 to L1, tag 88a80064 added\n    L1 ab: taken 0\n    B2 1 \
             from L1, no service vid 9 priority 0: filtered not-member\n    L2 ba: lost 7\n\
-            in ffff: polled C2 1\n  B1 3 from L3, untagged, table full, nowhere: relayed\n  B1 4 to L4, tag \
-            88a80064\n  B1 2 to C3, tag taken off\n  B1 2 to C4\n  C3: delivered ffff\nothers 2\n\
-            left at C3 C4; refused 1; lost 1\n",
+            in ffff: polled C2 1\n  B1 3 from L3, untagged, table full, no egress port: relayed\n  B1 4 to L4, tag \
+            88a80064\n  B1 2 to C3, tag removed\n  B1 2 to C4\n  C3: delivered ffff\nother events 2\n\
+            delivered at C3 C4; refused 1; lost 1\n",
         json: r#"{"settled": true, "ticks": 3, "others": 2, "left_at": ["C3", "C4"], "refused": 1, "lost": 1,
             "frames": [
             {"frame": "ffff", "port": "C1", "number": 0, "hops": [
@@ -102,14 +123,15 @@ pub(super) const TRACES: &[Said] = &[
                 {"depth": 2, "event": "lost", "link": "L2", "direction": "ba", "number": 7}]},
             {"frame": "ffff", "port": "C2", "number": 1, "hops": [
                 {"depth": 1, "event": "received", "bridge": "B1", "port": 3, "from": "L3", "untagged": true,
-                    "source": "table full", "way": "nowhere", "outcome": "relayed", "relayed_to": [], "no_room": []},
+                    "source": "table full", "way": "no egress port", "outcome": "relayed", "relayed_to": [],
+                    "no_room": []},
                 {"depth": 1, "event": "sent", "bridge": "B1", "port": 4, "to": "L4", "tag": "88a80064"},
-                {"depth": 1, "event": "sent", "bridge": "B1", "port": 2, "to": "C3", "tag": "taken off"},
+                {"depth": 1, "event": "sent", "bridge": "B1", "port": 2, "to": "C3", "tag": "removed"},
                 {"depth": 1, "event": "sent", "bridge": "B1", "port": 2, "to": "C4"},
                 {"depth": 1, "event": "delivered", "port": "C3", "frame": "ffff"}]}]}"#,
     },
     Said {
-        text: "goes round over L1 L2; ended after 1000 events\nleft nowhere; refused 0; lost 0\n",
+        text: "loops over L1 L2; ended after 1000 events\nnot delivered; refused 0; lost 0\n",
         json: r#"{"frames": [], "goes_round_over": ["L1", "L2"], "events": 1000, "left_at": [], "refused": 0,
             "lost": 0}"#,
     },
@@ -142,7 +164,7 @@ pub(super) const SURVIVALS: &[Said] = &[
         json: r#"{"nothing_down": {"settled": true, "ticks": 3, "forest": false, "loops": [{"service": "red"}],
                 "services": [{"name": "red", "groups": [["C1", "C2"], ["C3"], ["C4"]]}],
                 "unhealthy": [{"service": "red", "fault": "disconnected"}, {"service": "red", "fault": "loop"}]},
-            "failures": [
+            "acceptances": [], "failures": [
                 {"down": "link", "name": "ring5", "settled": true, "ticks": 3, "forest": true, "loops": [],
                     "cut_off": [], "services": [{"name": "red", "groups": [["C1"], ["C2"]]}]},
                 {"down": "links", "name": "a", "other": "b", "settled": false, "ticks": 200, "forest": false,
@@ -154,30 +176,90 @@ pub(super) const SURVIVALS: &[Said] = &[
     },
     Said {
         text: "nothing down: states given forest yes\n  service red: C1 C2\nhealthy with nothing down\n\
-            checked 2 links, 1 pairs\n3 of 3 failures disconnect nothing\nsurvives every single failure\n",
+            checked 2 links, 1 pair\n3 of 3 failures disconnect nothing\nsurvives every single failure\n",
         json: r#"{"nothing_down": {"forest": true, "loops": [], "unhealthy": [],
-                "services": [{"name": "red", "groups": [["C1", "C2"]]}]}, "failures": [], "healthy": true,
+                "services": [{"name": "red", "groups": [["C1", "C2"]]}]}, "acceptances": [], "failures": [], "healthy": true,
             "checked_links": 2, "checked_pairs": 1, "part_nothing": 3, "failures_tried": 3, "survives": true}"#,
     },
     Said {
         text: "nothing down: not settled ticks 9 forest yes\n  service red: C1\nbridges do not converge\n\
             service red has fewer than two ports\n\
-            not healthy with nothing down: 1 services, bridges do not converge\nchecked 0 links, 1 bridges\n\
-            not healthy with nothing down: 1 services, bridges do not converge\n",
+            not healthy with nothing down: 1 service, bridges do not converge\nchecked 0 links, 1 bridge\n\
+            not healthy with nothing down: 1 service, bridges do not converge\n",
         json: r#"{"nothing_down": {"settled": false, "ticks": 9, "forest": true, "loops": [],
                 "services": [{"name": "red", "groups": [["C1"]]}],
                 "unhealthy": [{"fault": "not converged"}, {"service": "red", "fault": "too few ports"}]},
-            "failures": [], "healthy": false, "unhealthy_services": 1, "checked_links": 0, "checked_bridges": 1,
+            "acceptances": [], "failures": [], "healthy": false, "unhealthy_services": 1, "checked_links": 0, "checked_bridges": 1,
             "survives": false}"#,
     },
     Said {
         text: "nothing down: states given forest yes\nnot healthy with nothing down: no service\nchecked 0 links\n\
             not healthy with nothing down: no service\n",
-        json: r#"{"nothing_down": {"forest": true, "loops": [], "services": [], "unhealthy": []}, "failures": [],
+        json: r#"{"nothing_down": {"forest": true, "loops": [], "services": [], "unhealthy": []}, "acceptances": [], "failures": [],
             "healthy": false, "checked_links": 0, "survives": false}"#,
     },
     Said {
         text: "no such port C9\n",
-        json: r#"{"failures": [], "no_such": {"port": "C9"}}"#,
+        json: r#"{"acceptances": [], "failures": [], "no_such": {"port": "C9"}}"#,
+    },
+    Said {
+        text: ACCEPTED,
+        json: r#"{"nothing_down": {"forest": true, "loops": [], "unhealthy": [],
+                "services": [{"name": "red", "groups": [["C1", "C2"]]}]},
+            "failures": [
+                {"accepted": true, "down": "link", "name": "leaf", "settled": true, "ticks": 3, "forest": true, "loops": [],
+                    "cut_off": [], "services": [{"name": "red", "groups": [["C1"], ["C2"]]}]},
+                {"down": "link", "name": "a", "forest": true, "loops": [], "cut_off": [],
+                    "services": [{"name": "red", "groups": [["C1"], ["C2"]]}]},
+                {"accepted": true, "down": "links", "name": "a", "other": "leaf", "forest": true, "loops": [],
+                    "cut_off": [{"port": "C1", "from": ["C2"]}], "services": []}],
+            "acceptances": [{"state": "stale", "accepts": "link b service red"},
+                {"state": "stale", "accepts": "bridge B1"}, {"state": "stale", "accepts": "links a b service red"},
+                {"state": "untried", "accepts": "bridge B2 service red"},
+                {"state": "untried", "accepts": "links b c"}],
+            "healthy": true, "checked_links": 4, "checked_pairs": 6, "part_nothing": 8, "failures_tried": 10,
+            "are_accepted": 2, "survives": true}"#,
+    },
+];
+
+/// A report of `diff` with each of its lines.
+const CHANGE: &str =
+    "network: ageing: 300 -> 400\nlink L1: removed\nlink L2: a_services: [ ] -> all\nport C9: added\n\
+    service red: nothing down: no longer reach each other: C1 C2 | C3\n\
+    service red: link L2 down: now reach each other: C1 | C2 | C3\n\
+    service red: links L2 L3 down: now forms a forwarding loop\n\
+    service blue: bridge B1 down: no longer forms a forwarding loop\n\
+    link L2 with nothing down: a root forwarding, b designated forwarding -> a forwarding, b discarding\n\
+    nothing down: bridges now converge\nlink L2 down: bridges no longer converge\n\
+    most ticks to convergence: 7 -> none\n\
+    better: 1 of 5 failures; worse: 0 of 5 failures; with nothing down: worse\n";
+
+/// The reports of `diff`.
+pub(super) const CHANGES: &[Said] = &[
+    Said {
+        text: CHANGE,
+        json: r#"{"network": [{"key": "ageing", "old": "300", "new": "400"}],
+            "parts": [{"part": "link", "name": "L1", "change": "removed"}, {"part": "port", "name": "C9", "change": "added"}],
+            "fields": [{"part": "link", "name": "L2", "key": "a_services", "old": "[ ]", "new": "all"}],
+            "reach": [
+                {"service": "red", "down": "nothing", "reach": false, "groups": [["C1", "C2"], ["C3"]]},
+                {"service": "red", "down": "link", "name": "L2", "reach": true, "groups": [["C1"], ["C2"], ["C3"]]}],
+            "loops": [
+                {"service": "red", "down": "links", "name": "L2", "other": "L3", "loop": true},
+                {"service": "blue", "down": "bridge", "name": "B1", "loop": false}],
+            "ends": [{"link": "L2", "old_a": "root forwarding", "old_b": "designated forwarding", "new_a": "forwarding",
+                "new_b": "discarding"}],
+            "convergence": [{"down": "nothing", "converges": true}, {"down": "link", "name": "L2", "converges": false}],
+            "old_most_ticks": 7, "better": 1, "worse": 0, "failures_tried": 5, "nothing_down": "worse"}"#,
+    },
+    Said {
+        text: "no difference\n",
+        json: r#"{"network": [], "parts": [], "fields": [], "reach": [], "loops": [], "ends": [], "convergence": [],
+            "differs": false}"#,
+    },
+    Said {
+        text: "no such service green\n",
+        json: r#"{"network": [], "parts": [], "fields": [], "reach": [], "loops": [], "ends": [], "convergence": [],
+            "no_such": {"service": "green"}}"#,
     },
 ];

@@ -7,7 +7,7 @@ ghost use Rattle.pb_report.specs.Refusals.{PrintsRefusal};
 mod apart;
 mod plans;
 
-use pb_cmd_draw::{Asked, DrawEnd, Format, Rest, run_draw};
+use pb_cmd_draw::{Asked, DownFault, DrawEnd, Format, Rest, run_draw};
 use pb_fakes::{Full, Unflushed};
 use pb_messages::CommandFault;
 use plans::Piece;
@@ -16,7 +16,7 @@ use std::io::Write;
 use std::process::Abort;
 use std::test::Fail;
 
-/// The options: the service to highlight, the ports to disable, the most ticks, and the format.
+/// The options: the service to highlight, the names to disable, the most ticks, and the format.
 type Question = (Option<&'static str>, &'static [&'static str], u32, Format);
 
 /// A plan file, the options, the end, and the pieces of the picture with their counts.
@@ -101,6 +101,24 @@ fn networks_are_drawn(rt: HostRuntime) -> Result<(), Fail> {
         ),
         (
             plans::GIVEN,
+            (None, &["L1"], 200, SVG),
+            DrawEnd::Drawn(Rest::Given),
+            plans::LINK_PIECES,
+        ),
+        (
+            plans::GIVEN,
+            (None, &["B2"], 200, SVG),
+            DrawEnd::Drawn(Rest::Given),
+            plans::BRIDGE_PIECES,
+        ),
+        (
+            plans::SAME_NAMES,
+            (None, &["B2"], 200, SVG),
+            DrawEnd::Drawn(Rest::Given),
+            plans::SAME_NAMES_PIECES,
+        ),
+        (
+            plans::GIVEN,
             (None, &[], 200, DOT),
             DrawEnd::Drawn(Rest::Given),
             plans::DOT_PIECES,
@@ -146,13 +164,25 @@ fn what_is_wrong_is_told(rt: HostRuntime) -> Result<(), Fail> {
         (
             plans::GIVEN,
             (Some("red"), &["B2:2", "B9:1"], 200, SVG),
-            DrawEnd::NoPort(1),
+            DrawEnd::NoDown(DownFault::Unknown(1)),
             NONE,
         ),
         (
             plans::GIVEN,
             (None, &["B1:3"], 200, DOT),
-            DrawEnd::NoPort(0),
+            DrawEnd::NoDown(DownFault::Unknown(0)),
+            NONE,
+        ),
+        (
+            plans::GIVEN,
+            (None, &["L1", "l1"], 200, DOT),
+            DrawEnd::NoDown(DownFault::Unknown(1)),
+            NONE,
+        ),
+        (
+            plans::SAME_NAMES,
+            (None, &["B1"], 200, SVG),
+            DrawEnd::NoDown(DownFault::Ambiguous(0)),
             NONE,
         ),
     ];

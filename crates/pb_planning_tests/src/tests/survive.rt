@@ -1,5 +1,6 @@
 //! The reports on networks under failures.
 
+mod accepting;
 mod counted;
 mod draft;
 mod networks;
@@ -53,6 +54,7 @@ fn says<R: Abort + Threads + Sync>(rt: &R, alloc: Global, row: &Row<'_>) -> Resu
         scope: row.scope,
         own: row.own,
         ticks: row.ticks,
+        ..ANY
     };
     for _ in 0..2 {
         let mut output = Vec::new(alloc);
@@ -249,6 +251,9 @@ const ANY: Asked = Asked {
     scope: Scope::All,
     own: false,
     ticks: 200,
+    accepted: &[],
+    strict: false,
+    as_tables: false,
 };
 
 #[test]

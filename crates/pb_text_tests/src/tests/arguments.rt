@@ -30,9 +30,15 @@ fn takes_two_to_sixteen_ports(rt: HostRuntime) -> Result<(), Fail> {
 #[test]
 fn checks_one_file(rt: HostRuntime) -> Result<(), Fail> {
     const ROWS: &[Row] = &[
-        (&["check", "metro.toml"], Wanted::Check("metro.toml")),
-        (&["check", "a plan.toml"], Wanted::Check("a plan.toml")),
-        (&["check", "-"], Wanted::Check("-")),
+        (&["check", "metro.toml"], Wanted::Check("metro.toml", false)),
+        (
+            &["check", "a plan.toml"],
+            Wanted::Check("a plan.toml", false),
+        ),
+        (&["check", "-"], Wanted::Check("-", false)),
+        (&["check", "--strict", "a"], Wanted::Check("a", true)),
+        (&["check", "a", "--strict"], Wanted::Check("a", true)),
+        (&["check", "--strict"], WRONG),
         (&["check"], WRONG),
         (&["check", "a", "b"], WRONG),
     ];
@@ -56,10 +62,10 @@ fn steps_by_one_file(rt: HostRuntime) -> Result<(), Fail> {
 fn draws_the_trees_of_one_file(rt: HostRuntime) -> Result<(), Fail> {
     const ROWS: &[Row] = &[
         (&["tree", "a"], Wanted::Tree("a", &[], 200)),
-        (&["tree", "--ticks", "0", "a"], Wanted::Tree("a", &[], 0)),
+        (&["tree", "--ticks", "1", "a"], Wanted::Tree("a", &[], 1)),
         (
-            &["tree", "a", "--ticks=100000"],
-            Wanted::Tree("a", &[], 100_000),
+            &["tree", "a", "--ticks=1000000"],
+            Wanted::Tree("a", &[], 1_000_000),
         ),
         (
             &["tree", "--down", "B1:1", "a", "--down", "B2:16"],
@@ -69,7 +75,8 @@ fn draws_the_trees_of_one_file(rt: HostRuntime) -> Result<(), Fail> {
         (&["tree"], WRONG),
         (&["tree", "a", "b"], WRONG),
         (&["tree", "a", "--down"], WRONG),
-        (&["tree", "a", "--ticks", "100001"], WRONG),
+        (&["tree", "a", "--ticks", "0"], WRONG),
+        (&["tree", "a", "--ticks", "1000001"], WRONG),
         (&["tree", "--help"], HELP),
     ];
     all_ask(&rt, rt.alloc(), ROWS)
@@ -80,22 +87,51 @@ fn traces_frames_in_one_file(rt: HostRuntime) -> Result<(), Fail> {
     const ROWS: &[Row] = &[
         (
             &["trace", "a", "C1", "ff"],
-            Wanted::Trace("a", &[("C1", "ff")], false),
+            Wanted::Trace("a", &[("C1", "ff")], &[], None),
         ),
         (
             &["trace", "--settle", "a", "C1", "ff"],
-            Wanted::Trace("a", &[("C1", "ff")], true),
+            Wanted::Trace("a", &[("C1", "ff")], &[], Some(200)),
         ),
         (
             &["trace", "a", "C1", "ff", "--then", "C2", "00"],
-            Wanted::Trace("a", &[("C1", "ff"), ("C2", "00")], false),
+            Wanted::Trace("a", &[("C1", "ff"), ("C2", "00")], &[], None),
         ),
         (
             &[
                 "trace", "--then", "C2", "00", "a", "--then", "C3", "x", "C1", "",
             ],
-            Wanted::Trace("a", &[("C1", ""), ("C2", "00"), ("C3", "x")], false),
+            Wanted::Trace("a", &[("C1", ""), ("C2", "00"), ("C3", "x")], &[], None),
         ),
+        (
+            &[
+                "trace",
+                "a",
+                "C1",
+                "ff",
+                "--down",
+                "L1",
+                "--down=B1:2",
+                "--ticks",
+                "1000000",
+                "--settle",
+            ],
+            Wanted::Trace("a", &[("C1", "ff")], &["L1", "B1:2"], Some(1_000_000)),
+        ),
+        (
+            &["trace", "a", "C1", "ff", "--down", "L1"],
+            Wanted::Trace("a", &[("C1", "ff")], &["L1"], None),
+        ),
+        (&["trace", "a", "C1", "ff", "--ticks", "5"], WRONG),
+        (
+            &["trace", "a", "C1", "ff", "--settle", "--ticks", "0"],
+            WRONG,
+        ),
+        (
+            &["trace", "a", "C1", "ff", "--settle", "--ticks", "1000001"],
+            WRONG,
+        ),
+        (&["trace", "a", "C1", "ff", "--down"], WRONG),
         (&["trace", "a", "C1"], WRONG),
         (&["trace", "a"], WRONG),
         (&["trace"], WRONG),

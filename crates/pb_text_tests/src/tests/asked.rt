@@ -1,9 +1,10 @@
 //! The harness: it parses the arguments of a command line and checks the command.
 
-use super::wanted::{Look, Of, Picture, Row, Run, Wanted};
+use super::wanted::{Change, Look, Of, Picture, Row, Run, Wanted};
 use pb_cli::{
-    CommandLine, ControlOptions, DrawOptions, ReportFormat, ReportOptions, RunOptions,
-    SurviveOptions, SurviveScope, TraceEntry, TraceOptions, TreeOptions, command_line_of,
+    CheckOptions, CommandLine, ControlOptions, DiffOptions, DrawOptions, ReportFormat,
+    ReportOptions, RunOptions, SurviveOptions, SurviveScope, TraceEntry, TraceOptions, TreeOptions,
+    command_line_of,
 };
 use std::alloc::{AllocError, Global};
 use std::process::Abort;
@@ -67,6 +68,11 @@ fn is_report(told: &ReportOptions, path: &str) -> bool {
     told.path.as_str() == path && told.format == ReportFormat::Text
 }
 
+/// Returns whether it is a check of this plan file with a report as text.
+fn is_check(told: &CheckOptions, path: &str, strict: bool) -> bool {
+    told.path.as_str() == path && told.strict == strict && told.format == ReportFormat::Text
+}
+
 /// Returns whether these are the options of the run.
 fn is_run(told: &RunOptions, run: &Run) -> bool {
     told.path.as_str() == run.path
@@ -88,10 +94,17 @@ fn is_tree(told: &TreeOptions, path: &str, downs: &[&str], ticks: u32) -> bool {
 }
 
 /// Returns whether these are the options of `trace`.
-fn is_trace(told: &TraceOptions, path: &str, frames: &[(&str, &str)], settles: bool) -> bool {
+fn is_trace(
+    told: &TraceOptions,
+    path: &str,
+    frames: &[(&str, &str)],
+    downs: &[&str],
+    settle: Option<u32>,
+) -> bool {
     told.path.as_str() == path
         && are_entries(&told.entries, frames)
-        && told.settles == settles
+        && are_texts(&told.downs, downs)
+        && told.settle == settle
         && told.format == ReportFormat::Text
 }
 
@@ -112,7 +125,21 @@ fn is_look(told: &SurviveOptions, look: &Look) -> bool {
         && told.bridges == look.bridges
         && told.own == look.own
         && is_scope(&told.scope, look.of)
+        && is_text(told.accept.as_ref(), look.accept)
+        && told.strict == look.strict
+        && told.prints_accept == look.prints_accept
         && told.ticks == look.ticks
+        && told.format == ReportFormat::Text
+}
+
+/// Returns whether these are the options of the comparison.
+fn is_change(told: &DiffOptions, change: &Change) -> bool {
+    told.old.as_str() == change.old
+        && told.new.as_str() == change.new
+        && told.pairs == change.pairs
+        && told.bridges == change.bridges
+        && is_text(told.service.as_ref(), change.service)
+        && told.ticks == change.ticks
         && told.format == ReportFormat::Text
 }
 
@@ -140,6 +167,7 @@ fn format_of(line: &CommandLine) -> Option<ReportFormat> {
         CommandLine::Tree(options) => Some(options.format),
         CommandLine::Trace(options) => Some(options.format),
         CommandLine::Survive(options) => Some(options.format),
+        CommandLine::Diff(options) => Some(options.format),
         CommandLine::Flat(_)
         | CommandLine::Show
         | CommandLine::Init(_)
@@ -152,16 +180,17 @@ fn format_of(line: &CommandLine) -> Option<ReportFormat> {
 fn is_so(line: &CommandLine, wanted: &Wanted) -> bool {
     match (wanted, line) {
         (Wanted::Flat(ports), CommandLine::Flat(told)) => told == ports,
-        (Wanted::Check(path), CommandLine::Check(told)) => is_report(told, path),
+        (Wanted::Check(path, strict), CommandLine::Check(told)) => is_check(told, path, *strict),
         (Wanted::Step(path), CommandLine::Step(told)) => is_report(told, path),
         (Wanted::Run(run), CommandLine::Run(told)) => is_run(told, run),
         (Wanted::Tree(path, downs, ticks), CommandLine::Tree(told)) => is_tree(
             told, path, downs, *ticks,
         ),
-        (Wanted::Trace(path, frames, settles), CommandLine::Trace(told)) => {
-            is_trace(told, path, frames, *settles)
+        (Wanted::Trace(path, frames, downs, settle), CommandLine::Trace(told)) => {
+            is_trace(told, path, frames, downs, *settle)
         }
         (Wanted::Survive(look), CommandLine::Survive(told)) => is_look(told, look),
+        (Wanted::Diff(change), CommandLine::Diff(told)) => is_change(told, change),
         (Wanted::Draw(picture), CommandLine::Draw(told)) => is_picture(told, picture),
         (Wanted::Show, CommandLine::Show) => true,
         (Wanted::Init(network), CommandLine::Init(told)) => told == network,

@@ -41,16 +41,16 @@ const PICTURES: &[Row] = &[
         }),
     ),
     (
-        &["draw", "a", "--ticks", "0"],
+        &["draw", "a", "--ticks", "1"],
         Wanted::Draw(Picture {
-            ticks: 0,
+            ticks: 1,
             ..PICTURE
         }),
     ),
     (
-        &["draw", "a", "--ticks=100000"],
+        &["draw", "a", "--ticks=1000000"],
         Wanted::Draw(Picture {
-            ticks: 100_000,
+            ticks: 1_000_000,
             ..PICTURE
         }),
     ),
@@ -66,7 +66,8 @@ const PICTURES: &[Row] = &[
     (&["draw", "a", "--format", "png"], WRONG),
     (&["draw", "a", "--format"], WRONG),
     (&["draw", "a", "--service"], WRONG),
-    (&["draw", "a", "--ticks", "100001"], WRONG),
+    (&["draw", "a", "--ticks", "0"], WRONG),
+    (&["draw", "a", "--ticks", "1000001"], WRONG),
     (&["draw", "a", "--pairs"], WRONG),
 ];
 

@@ -34,6 +34,7 @@ fn reports_have_forms(rt: HostRuntime) -> Result<(), Fail> {
         (&["trace", "a", "C1", "ff", "--format=csv"], WRONG),
         (&["survive", "a", "--format=json"], JSON),
         (&["survive", "a", "--format=csv"], CSV),
+        (&["diff", "a", "b", "--format=json"], JSON),
         (&["survive", "a", "--format=svg"], WRONG),
         (&["flat", "3", "--format=json"], WRONG),
         (&["show", "--format=json"], WRONG),

@@ -11,6 +11,9 @@ const LINKS: Look = Look {
     bridges: false,
     own: false,
     of: Of::All,
+    accept: None,
+    strict: false,
+    prints_accept: false,
     ticks: 200,
 };
 
@@ -70,6 +73,26 @@ const LOOKS: &[Row] = &[
             path: "--pairs",
             ..LINKS
         }),
+    ),
+    (
+        &["survive", "a", "--accept", "b", "--strict"],
+        Wanted::Survive(Look {
+            accept: Some("b"),
+            strict: true,
+            ..LINKS
+        }),
+    ),
+    (
+        &["survive", "--print-accept", "a"],
+        Wanted::Survive(Look {
+            prints_accept: true,
+            ..LINKS
+        }),
+    ),
+    (&["survive", "a", "--accept"], WRONG),
+    (
+        &["survive", "a", "--print-accept", "--format", "json"],
+        WRONG,
     ),
     (&["survive"], WRONG),
     (&["survive", "--pairs"], WRONG),

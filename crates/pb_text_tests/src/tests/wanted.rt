@@ -48,6 +48,26 @@ pub(super) struct Look {
     /// Whether the ports of a failed bridge count too.
     pub(super) own: bool,
     pub(super) of: Of,
+    /// The path of a file of acceptances.
+    pub(super) accept: Option<&'static str>,
+    /// Whether a stale acceptance changes the exit status.
+    pub(super) strict: bool,
+    /// Whether tables are printed in place of the report.
+    pub(super) prints_accept: bool,
+    pub(super) ticks: u32,
+}
+
+/// A comparison of two plan files. Its report is a text.
+#[derive(Clone, Copy)]
+pub(super) struct Change {
+    pub(super) old: &'static str,
+    pub(super) new: &'static str,
+    /// Whether pairs of links fail too.
+    pub(super) pairs: bool,
+    /// Whether bridges fail too.
+    pub(super) bridges: bool,
+    /// The service that is compared, or `None` for all.
+    pub(super) service: Option<&'static str>,
     pub(super) ticks: u32,
 }
 
@@ -70,14 +90,22 @@ pub(super) struct Picture {
 #[derive(Clone, Copy)]
 pub(super) enum Wanted {
     Flat(u8),
-    Check(&'static str),
+    /// A plan file, and whether warnings have an exit status of their own.
+    Check(&'static str, bool),
     Step(&'static str),
     Run(Run),
-    /// A plan file, the ports that are disabled, and the maximum number of ticks.
+    /// A plan file, what is disabled, and the maximum number of ticks.
     Tree(&'static str, &'static [&'static str], u32),
-    /// A plan file, the frames as pairs of a port and digits, and whether the bridges converge first.
-    Trace(&'static str, &'static [(&'static str, &'static str)], bool),
+    /// A plan file, the frames as pairs of a port and digits, what is disabled, and the maximum number of ticks if the
+    /// bridges converge first.
+    Trace(
+        &'static str,
+        &'static [(&'static str, &'static str)],
+        &'static [&'static str],
+        Option<u32>,
+    ),
     Survive(Look),
+    Diff(Change),
     Draw(Picture),
     Show,
     Init(InitOptions),
@@ -86,7 +114,9 @@ pub(super) enum Wanted {
     /// A report in this format.
     Form(ReportFormat),
     /// No command: the arguments are wrong, or ask for help.
-    Nothing { wrong: bool },
+    Nothing {
+        wrong: bool,
+    },
 }
 
 /// Wrong arguments.

@@ -50,10 +50,16 @@ port = 3
 service = "blue"
 kind = "socket"
 path = "c3.sock"
+
+[[port]]
+name = "C4"
+bridge = "B1"
+port = 3
+service = "blue"
 "#;
 
 /// The text of `check` for it.
-pub(super) const PLAN_FILE_ANSWER: &str = r#"ok bridges 2 links 1 services 2 ports 3
+pub(super) const PLAN_FILE_ANSWER: &str = r#"ok bridges 2 links 1 services 2 ports 4
 forest yes
 "#;
 

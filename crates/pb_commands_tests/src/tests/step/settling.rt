@@ -6,6 +6,7 @@ pub(super) const PLAN: &str =
 
 [network]
 spanning = "rstp"
+tick_ms = 10
 
 [[bridge]]
 name = "B1"

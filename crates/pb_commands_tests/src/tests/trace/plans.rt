@@ -12,6 +12,18 @@ port = [
 ]
 ";
 
+/// The bridges of `pb_fakes::plans::FAILOVER` with its link L2 alone.
+pub(super) const WITHOUT_L1: &str = "\
+network = { spanning = \"rstp\" }
+bridge = [{ name = \"B1\", address = \"02-00-00-00-00-01\" }, { name = \"B2\", address = \"02-00-00-00-00-02\" }]
+link = [{ name = \"L2\", a = \"B1\", a_port = 3, b = \"B2\", b_port = 3 }]
+service = [{ name = \"red\", vid = 100 }]
+port = [
+  { name = \"C1\", bridge = \"B1\", port = 2, service = \"red\" },
+  { name = \"C2\", bridge = \"B2\", port = 2, service = \"red\" },
+]
+";
+
 /// Two bridges with a link whose far end carries no service. C1 has priority 3.
 pub(super) const UNSERVED: &str = "\
 bridge = [{ name = \"B1\", address = \"02-00-00-00-00-01\" }, { name = \"B2\", address = \"02-00-00-00-00-02\" }]

@@ -159,6 +159,34 @@ port B2 1 link b disabled discarding cost 200000 from B2\n\
 port B2 2 link c root forwarding cost 200000 from B1\n\
 forest yes\n";
 
+/// The trees of `ONE` without the link b.
+pub(super) const ONE_LINK_TREES: &str = "\
+settled yes ticks 2\n\
+bridge B0 root B0 cost 0\n\
+port B0 1 link a designated forwarding cost 200000 from B0\n\
+port B0 2 link b disabled discarding cost 200000 from B0\n\
+bridge B1 root B0 cost 200000 port 1\n\
+port B1 1 link a root forwarding cost 200000 from B0\n\
+port B1 2 link c designated forwarding cost 200000 from B1\n\
+bridge B2 root B0 cost 400000 port 2\n\
+port B2 1 link b disabled discarding cost 200000 from B2\n\
+port B2 2 link c root forwarding cost 200000 from B1\n\
+forest yes\n";
+
+/// The trees of `ONE` without the links a and c of the bridge B1, which is its own root.
+pub(super) const ONE_BRIDGE_TREES: &str = "\
+settled yes ticks 2\n\
+bridge B0 root B0 cost 0\n\
+port B0 1 link a disabled discarding cost 200000 from B0\n\
+port B0 2 link b designated forwarding cost 200000 from B0\n\
+bridge B1 root B1 cost 0\n\
+port B1 1 link a disabled discarding cost 200000 from B1\n\
+port B1 2 link c disabled discarding cost 200000 from B1\n\
+bridge B2 root B0 cost 200000 port 1\n\
+port B2 1 link b root forwarding cost 200000 from B0\n\
+port B2 2 link c disabled discarding cost 200000 from B2\n\
+forest yes\n";
+
 pub(super) const TWO_TREES: &str = "\
 settled yes ticks 2\n\
 bridge B0 root B0 cost 0\n\

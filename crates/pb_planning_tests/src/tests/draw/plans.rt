@@ -25,6 +25,15 @@ port = [\n\
 ]\n\
 ";
 
+/// A bridge and a link with the name B1.
+pub(super) const SAME_NAMES: &str = "\
+bridge = [\n\
+  { name = \"B1\", address = \"02-00-00-00-00-01\" },\n\
+  { name = \"B2\", address = \"02-00-00-00-00-02\" },\n\
+]\n\
+link = [{ name = \"B1\", a = \"B1\", a_port = 1, b = \"B2\", b_port = 2 }]\n\
+";
+
 /// A ring of three bridges that run the protocol, without a service.
 pub(super) const RING: &str = "\
 network = { spanning = \"rstp\" }\n\
@@ -116,6 +125,43 @@ pub(super) const DOWN_PIECES: &[Piece] = &[
     ("<g class=\"link active plain\">", 1),
     ("<g class=\"link idle plain\">", 2),
 ];
+
+/// L1 is disabled at both ends.
+pub(super) const LINK_PIECES: &[Piece] = &[
+    (
+        "<title>link L1: B1 port 1 discarding, B2 port 2 discarding</title>",
+        1,
+    ),
+    (
+        "<title>link L3: B3 port 1 discarding, B1 port 2 forwarding</title>",
+        1,
+    ),
+    ("<g class=\"link active plain\">", 1),
+    ("<g class=\"link idle plain\">", 2),
+];
+
+/// L1 and L2 are disabled at both ends, with the bridge B2.
+pub(super) const BRIDGE_PIECES: &[Piece] = &[
+    (
+        "<title>link L1: B1 port 1 discarding, B2 port 2 discarding</title>",
+        1,
+    ),
+    (
+        "<title>link L2: B2 port 1 discarding, B3 port 2 discarding, loses 2 to B3 and 0 to B2</title>",
+        1,
+    ),
+    (
+        "<title>link L3: B3 port 1 discarding, B1 port 2 forwarding</title>",
+        1,
+    ),
+    ("<g class=\"link idle plain\">", 3),
+];
+
+/// The link B1 is disabled at both ends, with the bridge B2.
+pub(super) const SAME_NAMES_PIECES: &[Piece] = &[(
+    "<title>link B1: B1 port 1 discarding, B2 port 2 discarding</title>",
+    1,
+)];
 
 pub(super) const RING_PIECES: &[Piece] = &[
     (

@@ -161,7 +161,7 @@ nothing down: settled ticks 2 forest yes\n\
 healthy with nothing down\n\
 links L1 L2 down: settled ticks 2 forest yes\n\
 \x20 service red: C1 | C2\n\
-checked 2 links, 1 pairs\n\
+checked 2 links, 1 pair\n\
 2 of 3 failures disconnect nothing\n\
 converges within 2 ticks\n\
 1 of 3 failures disconnect a service\n";
@@ -186,10 +186,10 @@ nothing down: states given forest no\n\
 \x20 loop red\n\
 \x20 service red: C1 C2\n\
 service red has a forwarding loop\n\
-not healthy with nothing down: 1 services\n\
+not healthy with nothing down: 1 service\n\
 checked 3 links\n\
 3 of 3 failures disconnect nothing\n\
-not healthy with nothing down: 1 services\n";
+not healthy with nothing down: 1 service\n";
 
 /// A ring with two loops: without one link a loop may remain.
 pub(super) const TWO_LOOPS: &str = "\
@@ -197,7 +197,7 @@ nothing down: states given forest no\n\
 \x20 loop red\n\
 \x20 service red: C1 C2\n\
 service red has a forwarding loop\n\
-not healthy with nothing down: 1 services\n\
+not healthy with nothing down: 1 service\n\
 link L1 down: states given forest no\n\
 \x20 loop red\n\
 link L2 down: states given forest no\n\
@@ -207,7 +207,7 @@ link L3 down: states given forest no\n\
 checked 3 links\n\
 3 of 3 failures disconnect nothing\n\
 3 of 3 failures form a forwarding loop\n\
-not healthy with nothing down: 1 services\n";
+not healthy with nothing down: 1 service\n";
 
 /// Two bridges without a link: the service is disconnected with nothing down.
 pub(super) const CUT: &str = "\
@@ -225,11 +225,11 @@ pub(super) const ONE_PORT: &str = "\
 nothing down: settled ticks 2 forest yes\n\
 \x20 service red: C1\n\
 service red has fewer than two ports\n\
-not healthy with nothing down: 1 services\n\
+not healthy with nothing down: 1 service\n\
 checked 2 links\n\
 2 of 2 failures disconnect nothing\n\
 converges within 2 ticks\n\
-not healthy with nothing down: 1 services\n";
+not healthy with nothing down: 1 service\n";
 
 /// A ring with a link for one service: the other service has only a line.
 pub(super) const LISTED: &str = "\
