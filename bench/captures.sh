@@ -1,7 +1,6 @@
 #!/usr/bin/env bash
-# Has a capture that was written by a capture port read back by tcpdump, and compares what it shows with
-# the frames that were given. It installs tcpdump where that can be done, and says so where not. It is no
-# part of the gate.
+# Compares the frames of a capture that a capture port wrote, as tcpdump prints them, with the frames that the port read.
+# Root on Debian installs tcpdump if it is missing. The gate does not run this script.
 set -eu
 cd -- "$(dirname -- "$0")/.."
 
@@ -22,7 +21,7 @@ octets() {
     printf "$(printf '%s' "$1" | sed 's/../\\x&/g')"
 }
 
-# A capture whose numbers have the higher octet first; the port writes the lower one first.
+# A big-endian capture; the port writes little-endian.
 octets a1b2c3d40002000400000000000000000000ffff00000001 >>"$folder/in.pcap"
 while read -r frame; do
     len=$(printf '%08x' $((${#frame} / 2)))
@@ -31,13 +30,14 @@ done <"$folder/wanted"
 
 build_copy "$folder/in.pcap" "$folder/out.pcap"
 if ! install_tool tcpdump; then
-    echo "tcpdump is absent and can't be installed here" >&2
+    echo "error: tcpdump is not installed" >&2
+    echo "hint: install it as root: apt-get install tcpdump" >&2
     exit 1
 fi
-# Of each frame tcpdump shows a line of text, and then its octets in lines of their own.
+# tcpdump prints a line of text for each frame, and then lines with its octets.
 tcpdump -r "$folder/out.pcap" -t -xx 2>/dev/null \
     | awk '/^\t0x/ { line = $0; sub(/^[^:]*:/, "", line); gsub(/[ \t]/, "", line); frame = frame line; next }
            { if (frame) print frame; frame = "" }
            END { if (frame) print frame }' >"$folder/shown"
 diff -- "$folder/wanted" "$folder/shown"
-echo "the frames are read back"
+echo "the frames are the same"

@@ -1,6 +1,5 @@
-// What bench/flat.sh times beside `pbnet flat`: a plain Rust program that answers each line as `pbnet flat PORTS` does,
-// as fast as ordinary code gets. Nothing of it is proved, it keeps no record of its steps, and it knows no limit of
-// steps. It stands on std alone, and is no part of the program:
+// A plain Rust program that prints what `pbnet flat PORTS` prints, for bench/flat.sh to compare its rate. It is not proved,
+// counts no steps, and has no limit of steps. It uses std alone, and is no part of pbnet:
 //
 //     rustc -O --edition 2021 -o yardstick bench/flat_yardstick.rs
 //     ./yardstick PORTS < LINES

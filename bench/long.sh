@@ -1,15 +1,17 @@
 #!/usr/bin/env bash
-# Whether a run's memory stays as it is however long it runs: one bridge between two captures, the first with a million
-# broadcasts of 64 octets and then with ten million. Prints how many left, the seconds, and the most memory that was
-# resident. The captures need a gigabyte each way.
+# Measures whether memory grows with the number of frames. One million broadcasts of 64 octets and then ten million pass
+# `run`, as one bridge between two captures, and `flat 3`, as lines. Prints the frames that left or the lines, the seconds, and
+# the most resident memory. The captures need a gigabyte each way.
 set -eu
 cd -- "$(dirname -- "$0")/.."
 
 if ! command -v python3 >/dev/null 2>&1; then
-    echo "bench/long.sh needs python3" >&2
+    echo "error: python3 is not on PATH" >&2
     exit 1
 fi
-./pbnet show >/dev/null
+. bench/tools.sh
+find_program
+print_machine
 folder=$(mktemp -d)
 trap 'rm -rf -- "$folder"' EXIT
 
@@ -25,10 +27,10 @@ plan() {
 
 plan >"$folder/plan.toml"
 for millions in 1 10; do
-    python3 - "$folder" "$millions" <<'PYTHON'
-import re, subprocess, sys, time
+    python3 - "$folder" "$millions" "$program" <<'PYTHON'
+import re, subprocess, sys, threading, time
 
-folder, millions = sys.argv[1], int(sys.argv[2])
+folder, millions, program = sys.argv[1], int(sys.argv[2]), sys.argv[3]
 head = bytes.fromhex("d4c3b2a1020004000000000000000000ffff000001000000")
 record = bytes.fromhex("00000000000000004000000040000000" "ffffffffffff0200000001010800") + bytes(50)
 open(f"{folder}/none.pcap", "wb").write(head)
@@ -36,18 +38,44 @@ with open(f"{folder}/all.pcap", "wb") as file:
     file.write(head)
     for _ in range(1000 * millions):
         file.write(record * 1000)
+
+
+def watch(process):
+    """Returns the most resident memory of a process in KiB, after its end. (The figure that the system gives for an ended
+    process includes this program's own memory from before the start.)"""
+    most = 0
+    while process.poll() is None:
+        with open(f"/proc/{process.pid}/status") as file:
+            found = re.search(r"VmHWM:\s+(\d+)", file.read())
+        most = max(most, int(found[1]) if found else 0)
+        time.sleep(0.02)
+    return most
+
+
+def feed(pipe, text, times):
+    with pipe:
+        for _ in range(times):
+            pipe.write(text)
+
+
+def show(name, count, what, seconds, most):
+    print(f"{name}, {millions},000,000 frames: {count:,} {what} in {seconds:.1f} s, {count / seconds:,.0f} a second, "
+          f"{most / 1024:.1f} MiB resident at most", flush=True)
+
+
 began = time.monotonic()
-ran = subprocess.Popen(["crates/pbnet/out/pbnet", "run", f"{folder}/plan.toml"], stdout=subprocess.PIPE, text=True)
-# (what the system counts of an ended process has in it what this one had when it began the other)
-most = 0
-while ran.poll() is None:
-    with open(f"/proc/{ran.pid}/status") as file:
-        found = re.search(r"VmHWM:\s+(\d+)", file.read())
-    most = max(most, int(found[1]) if found else 0)
-    time.sleep(0.02)
+ran = subprocess.Popen([program, "run", f"{folder}/plan.toml"], stdout=subprocess.PIPE, text=True)
+most = watch(ran)
 seconds = time.monotonic() - began
 lines = ran.stdout.read().splitlines()
 left = next(int(it.split()[5]) for it in lines if it.startswith("port C2 "))
-print(f"{millions:,},000,000 frames: {lines[0]}, {left:,} left in {seconds:.1f} s, {left / seconds:,.0f} a second, {most / 1024:.1f} MiB resident at most")
+show(f"run, {lines[0]}", left, "left", seconds, most)
+
+text = b"in 1 ffffffffffff0200000001010800" + b"00" * 50 + b"\n"
+began = time.monotonic()
+ran = subprocess.Popen([program, "flat", "3"], stdin=subprocess.PIPE, stdout=subprocess.DEVNULL)
+threading.Thread(target=feed, args=(ran.stdin, text * 1000, 1000 * millions), daemon=True).start()
+most = watch(ran)
+show("flat", 1_000_000 * millions, "lines", time.monotonic() - began, most)
 PYTHON
 done

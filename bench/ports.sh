@@ -1,7 +1,7 @@
 #!/usr/bin/env bash
-# Measures how many frames a second a capture port reads and writes: a capture of a million records of
-# 64 octets is read frame by frame and written again. tcpdump, which is installed where that can be
-# done, reads and writes the same capture in the same run; the last line is the ratio of the two rates.
+# Measures how many frames a second a capture port reads and writes: it copies a capture of a million records of 64 octets,
+# frame by frame. tcpdump copies the same capture, and the last line is the ratio of the two rates. Root on Debian installs
+# tcpdump if it is missing.
 set -eu
 cd -- "$(dirname -- "$0")/.."
 
@@ -11,7 +11,7 @@ trap 'rm -rf -- "$folder"' EXIT
 chmod 755 -- "$folder"
 . bench/tools.sh
 
-# A record of second 0 with 64 octets, doubled until there are enough.
+# A record of second 0 with 64 octets, doubled until they are a million or more.
 printf '\0\0\0\0\0\0\0\0\100\0\0\0\100\0\0\0' >"$folder/records"
 printf '\377\377\377\377\377\377\2\0\0\0\0\1\10\0%050d' 0 >>"$folder/records"
 size=80
@@ -39,6 +39,7 @@ measure() {
 }
 
 build_copy "$folder/in.pcap" "$folder/out.pcap"
+print_machine
 measure pb_port "$copy" "$folder/in.pcap" "$folder/out.pcap"
 cmp -- "$folder/in.pcap" "$folder/out.pcap"
 ours=$rate
@@ -46,5 +47,5 @@ if install_tool tcpdump; then
     measure tcpdump tcpdump -Z "$(id -un)" -r "$folder/in.pcap" -w "$folder/theirs.pcap"
     awk -v ours="$ours" -v theirs="$rate" 'BEGIN { printf "ratio: %.2f of tcpdump\n", ours / theirs }'
 else
-    echo "ratio: none, since tcpdump is absent and can't be installed here"
+    echo "note: tcpdump is not installed: no ratio" >&2
 fi

@@ -1,4 +1,4 @@
-"""The measurements of bench/proof.sh, which says what they are."""
+"""The measurements of bench/proof.sh."""
 import bisect
 import collections
 import datetime
@@ -19,12 +19,12 @@ import proving
 PARTS = ("--proof", "--tests", "--edits", "--slowest")
 MEMBER = re.compile(r"Rattle-(\w+)-(proofs|specs)\.(.*)\.oantt$")
 SHOWN = 20
-# Who wrote a part of a function's proof: the files of proofs/, and what only carries them. The checker wrote any other part.
+# The parts of a function's proof that are files of proofs/. The checker writes any other part.
 OWN_PARTS = ("Proof", "Answers", "Invariants")
 
 
 def table(head, rows):
-    """Prints a table; each column but the first stands to the right where its cells are numbers."""
+    """Prints a table. Each column but the first is aligned to the right."""
     print(f"| {' | '.join(head)} |")
     print(f"| --- |{' ---: |' * (len(head) - 1)}")
     for row in rows:
@@ -37,7 +37,7 @@ def seconds(number):
 
 
 class Clock:
-    """Samples how much processor time a process and the copies that it makes of itself have had, so that a moment can be told in it."""
+    """Samples the processor time of a process and of its forks, and gives the processor time at any moment."""
 
     def __init__(self, number):
         self.number, self.moments, self.used, self.is_over = number, [], [], threading.Event()
@@ -68,7 +68,7 @@ class Clock:
         return max(total / os.sysconf("SC_CLK_TCK"), self.used[-1] if self.used else 0)
 
     def at(self, moment):
-        """Returns the processor time at a moment, on the line between the samples round it."""
+        """Returns the processor time at a moment, interpolated between two samples."""
         after = bisect.bisect_left(self.moments, moment)
         if after == 0 or after == len(self.moments):
             return self.used[min(after, len(self.used) - 1)] if self.used else 0
@@ -78,7 +78,7 @@ class Clock:
 
 
 def saved(folder):
-    """Returns each file that the checker saved below the folder, with the moment, in their order."""
+    """Returns each file that the checker saved in the folder, with its time, in order of time."""
     found = []
     for at, _, names in os.walk(folder):
         found += [(os.stat(f"{at}/{it}").st_mtime_ns, it) for it in names]
@@ -86,7 +86,7 @@ def saved(folder):
 
 
 def part_of(name, functions, crate):
-    """Returns what a module that the checker saved belongs to, and which part of that it is."""
+    """Returns the function or file to which a saved module belongs, and which part of its proof it is."""
     found = MEMBER.match(name)
     if not found:
         return "", "start, facades, end"
@@ -102,7 +102,7 @@ def part_of(name, functions, crate):
 
 
 def owner_of(module, functions, part):
-    """Returns the function whose module this is, and the rest of its name, or what the module is where no function's."""
+    """Returns the function to which a module belongs and the rest of the name, or the module and `part` if it belongs to none."""
     words = module.split(".")
     for end in range(len(words), 0, -1):
         if ".".join(words[:end]) in functions:
@@ -112,8 +112,8 @@ def owner_of(module, functions, part):
 
 
 def profile(crate):
-    """Checks the crate at one job over an empty folder, in which the checker saves each module as it ends, and returns
-    the processor seconds of each: those between its save and the save before."""
+    """Checks a crate at one job, and returns the processor seconds of each module: those between its save and the save
+    before it."""
     rtlib = proving.toolchain().rtlib
     with tempfile.TemporaryDirectory(prefix="profile-") as room:
         os.mkdir(f"{room}/kept")
@@ -122,7 +122,7 @@ def profile(crate):
         ran = proving.run(words, crate.folder, room, began=lambda it: clocks.append(Clock(it)))
         clocks[0].end()
         if ran.status:
-            sys.exit(f"{crate.name} is not proved:\n{ran.said[-2000:]}")
+            sys.exit(f"error: {crate.name} is not proved:\n{ran.said[-2000:]}")
         names = proving.PROGRESS_LINES.findall(ran.said)
         functions = {it.partition("::")[2].replace("::", ".") for it in names}
         took, before = collections.Counter(), 0.0
@@ -136,8 +136,8 @@ def profile(crate):
     return took, len(functions), batches
 
 
-def tell_slowest(tree, names):
-    """Prints which parts, functions and modules take longest."""
+def print_slowest(tree, names):
+    """Prints the slowest parts, functions and modules."""
     crates = proving.crates_of(tree)
     wanted = [it for it in proving.with_below(crates, names or ["pbnet"]) if not names or it.name in names]
     proving.prove(tree, [below.name for it in wanted for below in it.below()])
@@ -147,15 +147,15 @@ def tell_slowest(tree, names):
         took, functions, batches = took + more, functions + count, batches + copies
     whole = sum(took.values())
     print(f"## The slowest of {', '.join(it.name for it in wanted)}\n")
-    print(f"A check at one job took {seconds(whole)} s of processor time for {functions:,} functions. The time of a module is what passed between its save and the save before it.")
-    print(f"The checker worked in {batches} batches, each of which loads anew what it needs.\n" if batches else "")
+    print(f"A check at one job took {seconds(whole)} s of processor time for {functions:,} functions. The time of a module is the time from the save before it to its own save.")
+    print(f"The checker worked in {batches} batches. Each loads the modules that it needs.\n" if batches else "")
     parts, owners, of = collections.Counter(), collections.Counter(), collections.defaultdict(list)
     for (name, owner, part), it in took.items():
         parts[part] += it
         if owner:
             owners[name, owner] += it
             of[name, owner].append((it, part))
-    print("By the part of a function's proof (`Answers` and `Invariants` are the files of proofs/, and so is `Proof` where there is such a file; the checker writes the others):\n")
+    print("By the part of a function's proof (`Answers`, `Invariants` and some `Proof` are files of proofs/; the checker writes the others):\n")
     table(["part", "CPU s", "of all"], [(part, seconds(it), f"{100 * it / whole:.0f} %") for part, it in parts.most_common(SHOWN)])
     print("By function, or file of lemmas or definitions:\n")
     rows = []
@@ -168,8 +168,8 @@ def tell_slowest(tree, names):
     table(["of", "part", "CPU s"], rows)
 
 
-def tell_machine():
-    """Prints what the figures are of."""
+def print_machine():
+    """Prints the machine, the date and the versions."""
     with open("/proc/cpuinfo", encoding="utf-8") as it:
         model = re.search(r"(?m)^model name\s*: (.*)$", it.read())
     memory = os.sysconf("SC_PAGE_SIZE") * os.sysconf("SC_PHYS_PAGES") / 1e9
@@ -183,7 +183,7 @@ def tell_machine():
 
 
 def proved_anew(room, names):
-    """Proves the crates in a fresh clone. Returns the figures of each crate by name, and how long that took on the wall."""
+    """Proves the crates in a fresh clone. Returns the figures of each crate by name, and the seconds of wall time."""
     tree = f"{room}/clone"
     subprocess.run(["git", "clone", "--quiet", ROOT, tree], check=True)
     began = time.time()
@@ -202,30 +202,30 @@ def prove_tests(crate, room):
 
 
 def try_edits(crate, room):
-    """Tries the crate's wrong bodies as the gate does, in a process of their own, and returns the run."""
+    """Tries the crate's mutants as the gate does, in a separate process, and returns the run."""
     tree = os.path.dirname(os.path.dirname(crate.folder))
     return proving.run([sys.executable, os.path.realpath(__file__), "--try-edits", tree, crate.name], tree, room)
 
 
 def try_edits_here(root, name):
-    """Tries a crate's wrong bodies in turn: one from nothing, more over copies of what one check of the crate made."""
+    """Tries a crate's mutants in turn: a single one from nothing, several on copies of one check of the crate."""
     proving.prepare()
     rt, crate = proving.toolchain(), proving.crates_of(root)[name]
     edits, jobs = rt.edits_of(crate)[0], ["--jobs", "1"]
-    told = []
+    results = []
     with tempfile.TemporaryDirectory() as room:
         if len(edits) > 1:
             os.mkdir(f"{room}/seed")
             rt.checked(crate, {}, jobs, f"{room}/seed")
         for number, edit in enumerate(edits):
             kept = shutil.copytree(f"{room}/seed", f"{room}/{number}") if len(edits) > 1 else None
-            told.append(rt.must_fail(crate, edit, jobs, kept))
-    print(*[text for _, text in told], sep="\n")
-    return 0 if all(it in (rt.REFUSED, rt.AT_LIMIT) for it, _ in told) else 1
+            results.append(rt.must_fail(crate, edit, jobs, kept))
+    print(*[text for _, text in results], sep="\n")
+    return 0 if all(it in (rt.REFUSED, rt.AT_LIMIT) for it, _ in results) else 1
 
 
 def measured(tree, names, room, what, call):
-    """Runs a measurement of each crate, one job each and as many at once as there are processors and memory. Returns the runs by name."""
+    """Measures each crate with one job, and as many crates at once as processors and memory allow. Returns the runs by name."""
     rt, crates = proving.toolchain(), proving.crates_of(tree)
     wanted = [it for it in crates.values() if (it.name in names or not names) and what(it)]
     proving.prove(tree, [below.name for it in wanted for below in it.below()])
@@ -233,11 +233,11 @@ def measured(tree, names, room, what, call):
     found = {key[0]: it for key, it in rt.in_lanes(tasks).items()}
     for name, ran in found.items():
         if ran.status:
-            print(f"{name}: status {ran.status}: {ran.said[-600:]}", file=sys.stderr)
+            print(f"error: {name}: status {ran.status}: {ran.said[-600:]}", file=sys.stderr)
     return found
 
 
-def tell_crates(tree, parts, names, room):
+def print_crates(tree, parts, names, room):
     """Prints the table of the crates."""
     rt = proving.toolchain()
     proofs, wall = proved_anew(room, names) if "--proof" in parts else ({}, 0)
@@ -248,16 +248,16 @@ def tell_crates(tree, parts, names, room):
     for name, it in proving.crates_of(tree).items():
         if name in proofs or name in tests or name in edits:
             rows.append(row_of(it, proofs.get(name), tests.get(name), edits.get(name), count(it)))
-    head = ["crate", "functions", "lines", "proof CPU s", "wall s", "jobs", "tests CPU s", "wall s", "wrong bodies", "CPU s", "wall s"]
+    head = ["crate", "functions", "lines", "proof CPU s", "wall s", "jobs", "tests CPU s", "wall s", "mutants", "CPU s", "wall s"]
     total = [sum(row[at] or 0 for row in rows) for at in range(1, len(head))]
     table(head, [[shown(it) for it in row] for row in [*rows, ["all", *total[:4], "", *total[5:]]]])
     if proofs:
-        print(f"The proof from nothing took {wall / 60:.1f} minutes on the wall.\n")
-    print("Proofs are those of `scripts/prove` in a fresh clone. Tests and wrong bodies are tried as `rt ci` tries them, at one job a crate, and crates side by side; so their wall times are longer than alone.\n", flush=True)
+        print(f"The proof from nothing took {wall / 60:.1f} minutes of wall time.\n")
+    print("Proofs are those of `scripts/prove` in a fresh clone. Tests and mutants run as in `rt ci`, one job for each crate. Crates run side by side, which makes their wall times longer.\n", flush=True)
 
 
 def row_of(crate, proof, tests, edits, count):
-    """Returns a crate's row: empty where something was not measured."""
+    """Returns a crate's row. Cells that were not measured are empty."""
     functions, user, system, wall, jobs, _ = proof or [None] * 6
     cpu = user + system if proof else None
     of = lambda ran: (ran.user + ran.sys, ran.wall) if ran else (None, None)
@@ -274,20 +274,23 @@ def main(words):
         return try_edits_here(*words[1:])
     parts = [it for it in words if it in PARTS] or PARTS
     names = [it for it in words if it not in PARTS]
-    if any(it.startswith("-") for it in names):
-        sys.exit(f"usage: bench/proof.sh [{'] ['.join(PARTS)}] [NAME..]")
+    unknown = [it for it in names if it.startswith("-")]
+    if unknown:
+        print(f"error: unexpected argument '{unknown[0]}'", file=sys.stderr)
+        print(f"usage: bench/proof.sh [{'] ['.join(PARTS)}] [CRATE..]", file=sys.stderr)
+        return 2
     try:
         proving.prepare()
-        tell_machine()
+        print_machine()
         with tempfile.TemporaryDirectory(prefix="bench-proof-") as room:
-            # (the clone is there once the proofs are measured, which come first)
+            # (measuring proofs, which comes first, makes the clone)
             tree = f"{room}/clone" if "--proof" in parts else ROOT
             if {*parts} - {"--slowest"}:
-                tell_crates(tree, parts, names, room)
+                print_crates(tree, parts, names, room)
             if "--slowest" in parts:
-                tell_slowest(tree, names)
+                print_slowest(tree, names)
     except proving.NoKit as why:
-        sys.exit(f"bench/proof.sh: {why}")
+        sys.exit(f"error: {why}")
     except proving.Failed:
         return 1
     return 0

@@ -1,15 +1,16 @@
 #!/usr/bin/env bash
-# Measures how many frames a second the run command delivers: 20,000 broadcasts of 64 octets cross a line of four
-# bridges, with a worker for each place. First between memory ports, whose frames stand in the plan file; then
-# between captures; then between sockets, with a load client of its own, where python3 is there.
+# Measures how many frames a second `run` delivers: 20,000 broadcasts of 64 octets cross a line of four bridges, with a
+# worker for each place. First between memory ports, whose frames are in the plan file, then between captures, and then
+# between sockets with a load client, if python3 is installed. Each is measured three times.
 set -eu
 cd -- "$(dirname -- "$0")/.."
 
 frames=20000
+. bench/tools.sh
 folder=$(mktemp -d)
 trap 'rm -rf -- "$folder"' EXIT
 
-# Four bridges in a line; their customer ports have the keys that the function of this name prints.
+# Prints a plan of four bridges in a line. The function $1 prints further keys of each customer port.
 plan() {
     printf '[network]\nring = 4096\nsteps = 1000000\nturns = 1000000000\n[[service]]\nname = "lan"\nvid = 100\n'
     for b in 1 2 3 4; do
@@ -22,7 +23,7 @@ plan() {
     done
 }
 
-# The broadcasts, one a line, in hexadecimal digits. Each has its number.
+# Prints the broadcasts in hexadecimal digits, one a line. Each has its number.
 broadcasts() {
     awk -v frames="$frames" 'BEGIN {
         for (n = 0; n < frames; n++) printf "ffffffffffff0200000001010800%0100x\n", n
@@ -51,14 +52,14 @@ octets() {
     if command -v xxd >/dev/null 2>&1; then xxd -r -p; else perl -ne 'chomp; print pack("H*", $_)'; fi
 }
 
-# Captures with no frame, and with all of them.
+# Writes a capture without a frame, and one with all broadcasts.
 captures() {
     printf '\324\303\262\241\002\000\004\000\000\000\000\000\000\000\000\000\377\377\000\000\001\000\000\000' >"$folder/none.pcap"
     cp -- "$folder/none.pcap" "$folder/all.pcap"
     broadcasts | sed 's/^/00000000000000004000000040000000/' | octets >>"$folder/all.pcap"
 }
 
-# The load client: sends the broadcasts at C1, takes what comes at all sockets, and ends with them.
+# The load client: sends the broadcasts to C1, and reads all sockets until they end.
 client() {
     python3 - "$folder" "$frames" <<'CLIENT'
 import socket
@@ -94,22 +95,22 @@ for thread in threads:
 CLIENT
 }
 
-# Seconds that a command takes. What it says on standard error is kept apart.
+# Prints the seconds that a command takes. Its standard error goes to a file.
 seconds_of() {
     TIMEFORMAT=%R
     { time "$@" >"$folder/out" 2>"$folder/errors"; } 2>&1
 }
 
-# Runs a plan, and prints how many frames were delivered a second. What the seconds count that a plan file takes
-# to be read, as `check` tells, is no part of it.
+# Runs a plan, and prints how many frames a second were delivered. The time to read the plan file, as `check` takes it, is
+# subtracted.
 measure() {
-    reading=$(seconds_of out/pbnet check "$folder/$1.toml")
+    reading=$(seconds_of "$program" check "$folder/$1.toml")
     if [ "$1" = sockets ]; then
         rm -f -- "$folder"/*.sock
         client >"$folder/client" &
         until grep -q listening "$folder/client" 2>/dev/null; do sleep 0.05; done
     fi
-    seconds=$(seconds_of out/pbnet run "$folder/$1.toml")
+    seconds=$(seconds_of "$program" run "$folder/$1.toml")
     wait
     awk -v name="$1" -v seconds="$seconds" -v reading="$reading" -v cores="$(nproc)" '
         NR == 1 { ended = $2 }
@@ -122,7 +123,8 @@ measure() {
     cat -- "$folder/errors"
 }
 
-./pbnet show >/dev/null
+find_program
+print_machine
 plan memory_keys >"$folder/memory.toml"
 plan capture_keys >"$folder/captures.toml"
 plan socket_keys >"$folder/sockets.toml"

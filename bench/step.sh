@@ -1,14 +1,15 @@
 #!/usr/bin/env bash
-# Measures how many lines a second the step command answers: a script of 200,000 lines that sends broadcasts
-# over a line of four bridges, and beside it the flat command over as many frames at three ports.
+# Measures how many lines a second `step` processes: a script of 200,000 lines, with broadcasts over a line of four bridges;
+# and how many `flat` processes: as many frames at three ports.
 set -eu
 cd -- "$(dirname -- "$0")/.."
 
 lines=200000
+. bench/tools.sh
 folder=$(mktemp -d)
 trap 'rm -rf -- "$folder"' EXIT
 
-# Four bridges in a line, a customer port at each.
+# Prints a plan of four bridges in a line, with a customer port at each.
 plan() {
     printf '[[service]]\nname = "lan"\nvid = 100\n'
     for b in 1 2 3 4; do
@@ -20,7 +21,7 @@ plan() {
     done
 }
 
-# A broadcast of 64 octets enters at C1, crosses all bridges and leaves at each other customer port.
+# Writes the script: broadcasts of 64 octets enter at C1, cross all bridges and leave each other customer port.
 script() {
     awk -v lines="$lines" 'BEGIN {
         payload = sprintf("%0100d", 0)
@@ -37,7 +38,7 @@ script() {
     }' >"$folder/steps"
 }
 
-# As many frames for the flat command: the broadcast of each round.
+# Writes as many lines for `flat`, all with the same broadcast.
 frames() {
     awk -v lines="$lines" 'BEGIN {
         frame = "ffffffffffff0200000001010800" sprintf("%0100d", 0)
@@ -45,7 +46,7 @@ frames() {
     }' >"$folder/frames"
 }
 
-# Runs a command over a file three times, and prints the best rate.
+# Runs a command on a file three times, and prints the best rate.
 measure() {
     name=$1
     input=$2
@@ -62,11 +63,12 @@ measure() {
     }'
 }
 
-./pbnet show >/dev/null
+find_program
+print_machine
 export GLIBC_TUNABLES=${GLIBC_TUNABLES-glibc.malloc.hugetlb=1}
 plan >"$folder/plan.toml"
 script
 frames
-measure step "$folder/steps" out/pbnet step "$folder/plan.toml"
+measure step "$folder/steps" "$program" step "$folder/plan.toml"
 tail -n 8 "$folder/step.out"
-measure flat "$folder/frames" out/pbnet flat 3
+measure flat "$folder/frames" "$program" flat 3

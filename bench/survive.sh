@@ -1,21 +1,23 @@
 #!/usr/bin/env bash
-# Measures how many seconds `survive` takes: over the metro ring of six bridges with two more in examples/access.toml, each
-# link, bridge and two links; then over 32 bridges with 64 links, each link by itself, and each two links too, with one
-# service that has a port at each bridge, and with the 64 services and 128 ports that a plan has at most.
+# Measures how many seconds `survive` takes. The metro ring of six bridges with two more (examples/access.toml): each link,
+# bridge and two links. 32 bridges with 64 links: each link, and each two links too, with one service that has a port at each
+# bridge, and with the most services and ports that a plan may have, 64 and 128.
 #
-#     bench/survive.sh [PROGRAM]     the program is ./pbnet, or the one that is named
+#     bench/survive.sh [PROGRAM]     the program is ./pbnet, or PROGRAM
 set -eu
 cd -- "$(dirname -- "$0")/.."
 
+. bench/tools.sh
 if [ "$#" = 0 ]; then
-    ./pbnet show >/dev/null
+    find_program
+else
+    program=$1
 fi
-program=${1-out/pbnet}
 folder=$(mktemp -d)
 trap 'rm -rf -- "$folder"' EXIT
 
-# A ring of 32 bridges that find a spanning tree, with a chord from each bridge to the fifth after it; so many services, and so
-# many customer ports at each bridge.
+# Prints a ring of 32 bridges with RSTP and a chord from each bridge to the fifth after it, with $1 services and $2 customer
+# ports at each bridge.
 plan() {
     awk -v services="$1" -v ports="$2" 'BEGIN {
         print "[network]\nspanning = \"rstp\""
@@ -32,7 +34,7 @@ plan() {
     }'
 }
 
-# Runs `survive` so many times, and prints the best time and the last line of the report.
+# Runs `survive` $2 times, and prints the best time and the last line of the report.
 measure() {
     local name=$1 runs=$2 best='' seconds
     shift 2
@@ -44,6 +46,7 @@ measure() {
     printf '%s: %s s at best of %s: %s\n' "$name" "$best" "$runs" "$(tail -n 1 "$folder/report")"
 }
 
+print_machine
 plan 1 1 >"$folder/one.toml"
 plan 64 4 >"$folder/all.toml"
 measure "the metro ring of six with two more" 5 examples/access.toml --bridges --pairs

@@ -1,21 +1,34 @@
 #!/usr/bin/env bash
-# Shows by others' programs that what we say is what the rest of the world does: installs what that needs from Debian's
-# packages, runs each part, and ends with 0 where each row of each table is alike or a listed difference.
+# Compares pbnet with other programs. Installs the Debian packages that this needs, and runs each part. The exit status is 0
+# if each row of each table is alike or a listed difference.
 #
-#     interop/all.sh [PART..]     all parts, or those that are named: differences survive wireshark openvswitch rings vde
-#                                 speed linux
+#     interop/all.sh [PART..]     all parts, or these: differences survive diff wireshark openvswitch rings vde speed
+#                                 linux
 #
-# The program is ./pbnet, or the one that the variable PBNET names. It is no part of the gate.
+# The program is ./pbnet, or that of the variable PBNET. The gate does not run this script.
 set -eu
 cd -- "$(dirname -- "$0")/.."
 
 packages=(python3 tshark wireshark-common openvswitch-switch openvswitch-common vde-switch vdeplug gcc libc6-dev
     qemu-system-x86 busybox-static iproute2 cpio)
+all=(differences survive diff wireshark openvswitch rings vde speed linux)
 parts=("$@")
-[ "${#parts[@]}" -gt 0 ] || parts=(differences survive wireshark openvswitch rings vde speed linux)
+[ "${#parts[@]}" -gt 0 ] || parts=("${all[@]}")
 status=0
 
-# The packages that are not installed.
+for part in "${parts[@]}"; do
+    case " ${all[*]} " in
+        *" $part "*) ;;
+        *)
+            echo "error: unknown part '$part'" >&2
+            echo "usage: interop/all.sh [PART..]" >&2
+            echo "hint: the parts are ${all[*]}" >&2
+            exit 2
+            ;;
+    esac
+done
+
+# Prints the packages that are not installed.
 missing() {
     local name
     for name in "${packages[@]}"; do
@@ -38,7 +51,7 @@ fi
 for part in "${parts[@]}"; do
     printf '## %s, %s\n\n' "$part" "$(date -u +%F)"
     "interop/$part.py" || {
-        echo "interop: $part failed" >&2
+        echo "error: interop/$part.py failed" >&2
         status=1
     }
 done

@@ -1,4 +1,4 @@
-"""Capture files of libpcap's format as a script needs them, and plans for `pbnet run` over them."""
+"""Capture files in the format of libpcap, and plans of `pbnet run` that read and write them."""
 
 import struct
 
@@ -6,7 +6,7 @@ MICRO, NANO = 0xA1B2C3D4, 0xA1B23C4D
 
 
 def pcap(frames, order="<", magic=MICRO, link=1, version=(2, 4), seconds=0):
-    """The octets of a capture."""
+    """Returns the octets of a capture."""
     octets = struct.pack(order + "IHHiIII", magic, *version, 0, 0, 262144, link)
     for place, frame in enumerate(frames):
         octets += struct.pack(order + "IIII", seconds + place, 0, len(frame), len(frame)) + frame
@@ -14,7 +14,7 @@ def pcap(frames, order="<", magic=MICRO, link=1, version=(2, 4), seconds=0):
 
 
 def frames_of(octets):
-    """The frames of a capture whose lower octet stands first."""
+    """Returns the frames of a little-endian capture."""
     frames, at = [], 24
     while at < len(octets):
         length = struct.unpack_from("<I", octets, at + 8)[0]
@@ -24,7 +24,7 @@ def frames_of(octets):
 
 
 def frame(length, to=b"\xff" * 6, source=b"\x02\0\0\0\0\1", kind=b"\x88\xb5"):
-    """A frame of that many octets, whose data differ from octet to octet."""
+    """Returns a frame of this many octets, with different data octets."""
     data = bytes((place * 7 + length) % 256 for place in range(max(0, length - 14)))
     return (to + source + kind + data)[:length]
 

@@ -1,4 +1,4 @@
-"""What the scripts of interop/ share: the program, tables of rows, and folders that are taken away again."""
+"""Shared by the scripts of interop/: the program, tables of rows, and temporary folders."""
 
 import os
 import pathlib
@@ -9,13 +9,13 @@ import tempfile
 import time
 
 TOP = pathlib.Path(__file__).resolve().parent.parent
-# The program as an absolute path: ./pbnet, or the one that PBNET names by a path or by a name on the search path.
+# The absolute path of the program: ./pbnet, or that of the variable PBNET, which is a path or a name on PATH.
 NAMED = os.environ.get("PBNET") or str(TOP / "pbnet")
 PROGRAM = os.path.abspath(shutil.which(NAMED) or NAMED)
 
 
 def run(*words, given=b"", cwd=TOP):
-    """What the program prints, with its exit status."""
+    """Returns what pbnet prints, and its exit status."""
     done = subprocess.run(
         [PROGRAM, *map(str, words)], input=given, stdout=subprocess.PIPE, stderr=subprocess.DEVNULL, cwd=cwd
     )
@@ -23,24 +23,24 @@ def run(*words, given=b"", cwd=TOP):
 
 
 def need_program():
-    """Ends with a message if the program can't be run: if `show` fails or prints nothing."""
+    """Ends with an error if pbnet cannot be run: if `show` fails or prints nothing."""
     try:
         done = subprocess.run([PROGRAM, "show"], stdout=subprocess.PIPE, stderr=subprocess.PIPE, cwd=TOP, check=False)
     except OSError as error:
-        sys.exit(f"{PROGRAM} can't be run: {error.strerror}")
+        sys.exit(f"error: cannot run {PROGRAM}: {error.strerror}")
     if done.returncode or not done.stdout:
-        said = done.stderr.decode("utf-8", "replace").strip() or "it prints nothing"
-        sys.exit(f"{PROGRAM} can't be run: `show` ends with status {done.returncode}: {said}")
+        output = done.stderr.decode("utf-8", "replace").strip() or "no output"
+        sys.exit(f"error: cannot run {PROGRAM}: `show` ended with status {done.returncode}: {output}")
 
 
 def output(*words, **more):
-    """What another program prints."""
+    """Returns what another program prints."""
     done = subprocess.run(list(map(str, words)), stdout=subprocess.PIPE, stderr=subprocess.PIPE, check=False, **more)
     return done.stdout.decode("utf-8", "replace") + done.stderr.decode("utf-8", "replace")
 
 
 def version(*words):
-    """The first line that another program prints of its version."""
+    """Returns the first line of another program's version."""
     return output(*words).strip().splitlines()[0]
 
 
@@ -49,16 +49,16 @@ def package_version(name):
 
 
 def wait_for(path):
-    """Waits up to 20 seconds until a path exists."""
+    """Waits at most 20 seconds until a path exists."""
     for _ in range(400):
         if pathlib.Path(path).exists():
             return
         time.sleep(0.05)
-    raise SystemExit(f"{path} does not come")
+    raise SystemExit(f"error: {path} did not appear within 20 seconds")
 
 
 class Folder:
-    """A temporary folder, and the processes that were started in it: both are gone behind the block."""
+    """A temporary folder and the processes that were started in it. Both end with the block."""
 
     def __enter__(self):
         self.path = pathlib.Path(tempfile.mkdtemp(prefix="interop-"))
@@ -85,13 +85,13 @@ class Folder:
 
 
 class Table:
-    """Rows of what is seen here and there. A row that differs needs a reason that was listed before."""
+    """Rows that compare pbnet with another program. A row that differs fails, unless it is a listed difference."""
 
     def __init__(self, title):
         self.title, self.rows, self.failed = title, [], 0
 
     def row(self, name, here, there, reason=None):
-        """A row. With a reason the row is a listed difference, and fails where both are alike."""
+        """Adds a row. With a reason it is a listed difference, and fails if both are alike."""
         here, there = str(here), str(there)
         if reason is None:
             verdict = "alike" if here == there else "DIFFERS"
@@ -101,18 +101,18 @@ class Table:
         self.rows.append((name, here, there, verdict))
 
     def text(self):
-        lines = [f"### {self.title}", "", "| Row | Here | There | |", "|---|---|---|---|"]
+        lines = [f"### {self.title}", "", "| Case | pbnet | Other | Result |", "|---|---|---|---|"]
         for row in self.rows:
             lines.append("| " + " | ".join(cell.replace("|", "\\|").replace("\n", " ") for cell in row) + " |")
         return "\n".join(lines) + "\n"
 
 
 def finish(*tables):
-    """Prints the tables, and ends with 0 where no row fails."""
+    """Prints the tables, and ends with status 0 if no row fails."""
     failed = 0
     for table in tables:
         print(table.text(), flush=True)
         failed += table.failed
     if failed:
-        print(f"{failed} rows fail", file=sys.stderr)
+        print(f"error: {failed} row{'s' if failed > 1 else ''} failed", file=sys.stderr)
     sys.exit(1 if failed else 0)

@@ -1,12 +1,11 @@
 #!/usr/bin/env python3
-"""Compares `check`, `step` and `flat` with the second implementation, on plans and scripts made by chance.
+"""Compares `check`, `step` and `flat` with the second implementation, on random plans and scripts.
 
     interop/differences.py [--seed TEXT] [--cases N] [--kind KIND] [--case KIND/NUMBER]
 
-Runs N cases of each kind, or of one kind alone. Each case depends on the seed, its kind and its number alone. A case
-that differs is kept in a folder whose path is printed, with what both sides print. The first of each kind is made
-smaller there, by leaving out lines while it still differs. The exit status is 0 if the program ran, at least one case
-was compared and no case differs.
+Runs N cases of each kind, or of one kind. A case depends only on the seed, its kind and its number. A case that differs
+is kept in a folder, whose path is printed, with the output of both programs. The first one of each kind is reduced to
+fewer lines. The exit status is 0 if the program ran, at least one case was compared, and no case differs.
 """
 
 import argparse
@@ -43,8 +42,8 @@ WORDS = (
 )
 
 
-# A case by hand, for what chance seldom meets: a port that is Learning learns from a frame that it filters, and the
-# stations behind a port that is set down are forgotten.
+# A written case that random ones seldom reach: a Learning port learns from a frame that it filters, and disabling a port
+# flushes its stations.
 
 HAND_PLAN = """
 [[bridge]]
@@ -100,7 +99,7 @@ admin B 1 up
 
 
 class Case:
-    """A command with what it reads, and what both programs say to it."""
+    """A command with its input, for both programs."""
 
     def __init__(self, kind, plan=None, script=None, ports=None):
         self.kind, self.plan, self.script, self.ports = kind, plan, script, ports
@@ -141,7 +140,7 @@ def make(seed, kind, number):
 
 
 def smaller(case, folder, seconds=45):
-    """The case with fewer lines, as long as it still differs and not longer than some seconds."""
+    """Returns the case with fewer lines that still differs, after at most some seconds of search."""
     if case.script is None:
         return case
     lines, end = case.script.split(b"\n"), time.monotonic() + seconds
@@ -160,10 +159,10 @@ def smaller(case, folder, seconds=45):
 
 def first_difference(here, there):
     if here[1] != there[1]:
-        return f"exit status {here[1]} here, {there[1]} there: {here[0][-80:]!r}, {there[0][-80:]!r}"
+        return f"exit status {here[1]}, expected {there[1]}: {here[0][-80:]!r}, expected {there[0][-80:]!r}"
     for number, (one, two) in enumerate(zip(here[0].split("\n"), there[0].split("\n")), 1):
         if one != two:
-            return f"line {number} of the output is {one!r} here, {two!r} there"
+            return f"line {number} of the output is {one!r}, expected {two!r}"
     return "one output is longer"
 
 
@@ -179,7 +178,7 @@ def keep(case, name, here, there):
 
 
 def kind_of(line):
-    """What a line of an output is counted as."""
+    """Returns the kind as which a line of output is counted."""
     words = line.split(" ")
     if words[0] in ("filtered", "forest", "settled", "plan:", "fault:"):
         at = 2 if words[0] == "filtered" and words[1].isdigit() else 1
@@ -194,7 +193,7 @@ def kind_of(line):
 
 
 def compare(seed, kind, numbers, folder, seen):
-    """The numbers of the cases that differ, and how many lines were compared."""
+    """Returns the numbers of the cases that differ, and how many lines were compared."""
     differing, lines = [], 0
     for number in numbers:
         case = make(seed, kind, number)
@@ -202,26 +201,27 @@ def compare(seed, kind, numbers, folder, seen):
         lines += there[0].count("\n")
         seen.update(filter(None, map(kind_of, there[0].split("\n"))))
         if here != there:
-            tell(case, f"{kind}/{number}", folder, (here, there), is_first=not differing)
+            report(case, f"{kind}/{number}", folder, (here, there), is_first=not differing)
             differing.append(number)
         if len(differing) == 5:
-            print(f"five cases of {kind} differ, the others are left out", file=sys.stderr)
+            print(f"note: five cases of {kind} differ: the remaining ones are skipped", file=sys.stderr)
             break
     return differing, lines
 
 
-def tell(case, name, folder, outputs, is_first):
-    """Prints what differs in a case, and keeps it. The first one is made smaller, if it differs a second time."""
+def report(case, name, folder, outputs, is_first):
+    """Prints what differs in a case, and keeps the case. The first one is reduced, if it differs a second time."""
     differs = "differs once" if case.here(folder) != outputs[0] else "differs"
     if is_first and case.differs(folder):
         case = smaller(case, folder)
         outputs = case.here(folder), case.there()
     kept = keep(case, name.replace("/", "-"), *outputs)
-    print(f"case {name} {differs}: {first_difference(*outputs)}; kept in {kept}", file=sys.stderr, flush=True)
+    print(f"error: case {name} {differs}: {first_difference(*outputs)}", file=sys.stderr)
+    print(f"hint: the case and both outputs are in {kept}", file=sys.stderr, flush=True)
 
 
 def counts_text(seen):
-    lines = ["What the outputs held:", "", "| Line | Times | Line | Times |", "|---|---:|---|---:|"]
+    lines = ["Lines of the outputs, by kind:", "", "| Line | Times | Line | Times |", "|---|---:|---|---:|"]
     rows = sorted(seen.items()) + [("", "")] * (len(seen) % 2)
     half = len(rows) // 2
     for (one, first), (two, second) in zip(rows[:half], rows[half:]):
@@ -232,19 +232,19 @@ def counts_text(seen):
 def arguments():
     parser = argparse.ArgumentParser(description=__doc__.split("\n")[0])
     parser.add_argument("--seed", default=str(int(time.time())))
-    parser.add_argument("--cases", type=int, default=2200, help="how many cases of each kind")
-    parser.add_argument("--kind", choices=KINDS, help="one kind alone")
-    parser.add_argument("--case", help="one case alone, as step/17")
+    parser.add_argument("--cases", type=int, default=2200, metavar="N", help="the cases of each kind [default: 2200]")
+    parser.add_argument("--kind", choices=KINDS, help="only this kind")
+    parser.add_argument("--case", metavar="KIND/NUMBER", help="only this case, as in step/17")
     given = parser.parse_args()
     if given.case and not re.fullmatch(rf"({'|'.join(KINDS)})/\d+", given.case):
-        parser.error(f"--case {given.case}: not KIND/NUMBER, where KIND is one of {', '.join(KINDS)}")
+        parser.error(f"argument --case: '{given.case}' is not KIND/NUMBER with a KIND of {', '.join(KINDS)}")
     if given.cases < 1:
-        parser.error(f"--cases {given.cases}: at least 1")
+        parser.error(f"argument --cases: {given.cases} is less than 1")
     return given
 
 
 def cases_of(given):
-    """The numbers of the cases by kind."""
+    """Returns the numbers of the cases, by kind."""
     if given.case:
         kind, number = given.case.split("/")
         return {kind: [int(number)]}

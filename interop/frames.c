@@ -1,11 +1,11 @@
-/* Sends frames at network interfaces and prints those that come, by lines of standard input:
+/* Sends frames to network interfaces and prints received ones. Lines of standard input are commands:
 
        at NAME          opens an interface
        send NAME HEX    sends a frame
-       wait MS          prints `NAME HEX` for each frame that came, until that many milliseconds are over
+       wait MS          prints `NAME HEX` for each received frame, for this many milliseconds
        say TEXT         prints the text
 
-   The kernel keeps the outermost tag of a frame beside it; here it is put back where it stood. */
+   The kernel removes the outermost tag of a frame, and gives it as auxiliary data. This program inserts it again. */
 
 #include <arpa/inet.h>
 #include <linux/if_packet.h>
@@ -60,19 +60,19 @@ static void send_frame(const char *name, const char *digits)
         printf("%s not sent\n", name);
 }
 
-/* The tag that stands beside the frame, if there is one. */
+/* Stores the tag of the auxiliary data, if there is one. Returns whether there is. */
 static int tag_of(struct msghdr *message, unsigned char tag[4])
 {
     for (struct cmsghdr *part = CMSG_FIRSTHDR(message); part != NULL; part = CMSG_NXTHDR(message, part)) {
-        struct tpacket_auxdata told;
+        struct tpacket_auxdata aux;
         if (part->cmsg_level != SOL_PACKET || part->cmsg_type != PACKET_AUXDATA)
             continue;
-        memcpy(&told, CMSG_DATA(part), sizeof told);
-        if (!(told.tp_status & TP_STATUS_VLAN_VALID))
+        memcpy(&aux, CMSG_DATA(part), sizeof aux);
+        if (!(aux.tp_status & TP_STATUS_VLAN_VALID))
             return 0;
-        unsigned type = told.tp_status & TP_STATUS_VLAN_TPID_VALID ? told.tp_vlan_tpid : 0x8100;
+        unsigned type = aux.tp_status & TP_STATUS_VLAN_TPID_VALID ? aux.tp_vlan_tpid : 0x8100;
         tag[0] = (unsigned char)(type >> 8), tag[1] = (unsigned char)type;
-        tag[2] = (unsigned char)(told.tp_vlan_tci >> 8), tag[3] = (unsigned char)told.tp_vlan_tci;
+        tag[2] = (unsigned char)(aux.tp_vlan_tci >> 8), tag[3] = (unsigned char)aux.tp_vlan_tci;
         return 1;
     }
     return 0;

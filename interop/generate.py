@@ -1,4 +1,4 @@
-"""Plans, scripts and lines by chance, for differences.py. Each case depends on its random.Random alone."""
+"""Random plans, scripts and lines for differences.py. Each case depends only on its random.Random."""
 
 import second_network
 from second_plan import read_plan
@@ -60,7 +60,7 @@ def free_port(chance, free, bridge):
 
 
 def link_ends(chance, count):
-    """A tree, or most of one, and some links more."""
+    """Returns the ends of a tree or of most of one, and some further links."""
     ends = [(chance.randrange(place), place) for place in range(1, count) if chance.random() < 0.95]
     for _ in range(chance.choice([0, 0, 1, 1, 2, 4])):
         ends.append((chance.randrange(count), chance.randrange(count)))
@@ -127,7 +127,7 @@ def plan(chance):
 
 
 def step_plan(chance):
-    """A plan that `step` accepts: one clock at most, a hold only beside a clock, prompt ports only under rstp."""
+    """Returns a plan that `step` accepts: at most one clock, `hold` only with a clock, `prompt` only with rstp."""
     document = plan(chance)
     network = document["network"]
     if network.get("tick_every"):
@@ -163,7 +163,7 @@ def table_text(head, table):
 
 
 def toml(document):
-    """The text of a document: tables with heads where they can have them."""
+    """Returns the text of a document, with table headers if possible."""
     top, below = [], []
     for key, value in document.items():
         if isinstance(value, dict):
@@ -180,7 +180,7 @@ def toml(document):
 
 
 def frame(chance):
-    """The digits of a frame, or of what is none."""
+    """Returns the digits of a frame, or of an invalid one."""
     if chance.random() < 0.05:
         return "".join(chance.choice("0123456789abcdef") for _ in range(2 * chance.randint(1, 20)))
     to = chance.choice(STATIONS) if chance.random() < 0.5 else chance.choice(GROUPS)
@@ -216,7 +216,7 @@ def lengthened(chance, digits):
 
 
 def enabled(network):
-    """The events that are not idle."""
+    """Returns the events that are not idle."""
     lines = []
     for name, customer in network.customers.items():
         lines += [f"feed {name}"] * (customer.hand is not None)
@@ -232,7 +232,7 @@ def enabled(network):
 
 
 def any_event(chance, network):
-    """An event of any kind, which may be idle, or name nothing."""
+    """Returns an event of any kind, which may be idle or have an unknown name."""
     bridges, customers, links = list(network.bridges), list(network.customers), [name for name, _ in network.lanes]
     if chance.random() < 0.1:
         bridges = customers = links = ["nobody"]
@@ -283,7 +283,7 @@ BAD = [
 
 
 def settle_down(chance, network):
-    """Lines until nothing is enabled: by chance each, and at most 400."""
+    """Yields random lines until nothing is enabled, at most 400."""
     for _ in range(400):
         lines = enabled(network)
         if not lines:
@@ -292,7 +292,7 @@ def settle_down(chance, network):
 
 
 def burst(chance, network):
-    """A few lines that belong together."""
+    """Yields a few lines that belong together."""
     roll = chance.random()
     if roll < 0.3 and network.plan.rstp:
         yield from (f"tick {name}" for name in network.bridges)
@@ -314,7 +314,7 @@ def burst(chance, network):
 
 
 def script(chance, document):
-    """A script for a plan, led by the second implementation so that most of its lines do something."""
+    """Returns a script for a plan. The second implementation chooses lines that do something."""
     network = second_network.Network(read_plan(toml(document).encode()))
     lines, most = [], chance.choice([20, 100, 300, 1000])
     while len(lines) < most:
@@ -367,7 +367,7 @@ def flat_lines(chance, ports):
 
 
 def many_stations(chance):
-    """More stations than a bridge learns, and frames for some of them."""
+    """Returns frames of more stations than a bridge learns, and frames to some of them."""
     lines = [f"in {1 + place % 3} ffffffffffff{0x020000000000 + place:012x}0800" for place in range(4200)]
     for _ in range(600):
         to, source = chance.randrange(4200), chance.randrange(4200)

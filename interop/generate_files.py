@@ -1,4 +1,4 @@
-"""Plan files by chance, for the `check` cases of differences.py. Each depends on its random.Random alone."""
+"""Random plan files for the `check` cases of differences.py. Each depends only on its random.Random."""
 
 import generate
 
@@ -98,7 +98,7 @@ def put_key(chance, document):
 
 
 def copy_value(chance, document):
-    """A value of one table goes to another of its array: so names, addresses and ports stand twice."""
+    """Copies a value of one table to another of its array: a name, address or port occurs twice."""
     rows = document[chance.choice([key for key in ("bridge", "link", "service", "port") if document.get(key)])]
     if isinstance(rows, list) and len(rows) > 1 and all(isinstance(row, dict) for row in rows):
         one, two = chance.sample(rows, 2)
@@ -128,7 +128,7 @@ def too_many(chance, document):
 
 
 def put_services(chance, document):
-    """Lists of services that may name what there is not."""
+    """Adds lists of services, which may have unknown names."""
     rows = document.get("link")
     if isinstance(rows, list) and rows and isinstance(rows[0], dict):
         names = [row.get("name") for row in document.get("service", []) if isinstance(row, dict)] + ["nobody"]
@@ -142,7 +142,7 @@ CHANGES = [take_key, put_wrong, put_wrong, put_key, copy_value, copy_value, swap
 
 
 def change_octets(chance, octets):
-    """Damage to the text itself."""
+    """Damages the text itself."""
     place = chance.randrange(len(octets))
     roll = chance.random()
     if roll < 0.4:
@@ -153,7 +153,7 @@ def change_octets(chance, octets):
 
 
 def put_kinds(chance, document):
-    """Some ports become captures or sockets."""
+    """Makes some ports captures or sockets."""
     for table in document["port"]:
         kind = chance.choice(["memory"] * 6 + ["capture", "capture", "socket", "listen"])
         if kind == "memory":
@@ -167,7 +167,7 @@ def put_kinds(chance, document):
 
 
 def put_events(chance, document):
-    """Events at ends of links, and sometimes at any port."""
+    """Adds events at ends of links, and sometimes at any port."""
     ends = [(table[side], table[side + "_port"]) for table in document["link"] for side in "ab"]
     if not ends or chance.random() < 0.7:
         return
@@ -180,7 +180,7 @@ def put_events(chance, document):
 
 
 def plan_file(chance):
-    """A plan file, whole or with some rules broken."""
+    """Returns a plan file, valid or with some errors."""
     document = generate.plan(chance)
     put_kinds(chance, document)
     put_events(chance, document)

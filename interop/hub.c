@@ -1,6 +1,8 @@
-/* A plain hub: what comes in by one of its streams goes out by all others. Frames stand behind their length in two
-   octets, the higher one first. It connects to the sockets that the command line names behind the word `each`, for a
-   write of each frame, or `all`, for one write of all whole frames that a read brought. */
+/* A plain hub, which passes each frame of a stream to all other streams. A frame follows its length in two octets, the
+   higher one first.
+
+       hub each SOCKET..    writes each frame by itself
+       hub all SOCKET..     writes all whole frames of a read at once */
 
 #include <poll.h>
 #include <stdio.h>
@@ -39,7 +41,7 @@ static void write_whole(int stream, const unsigned char *octets, size_t left)
     }
 }
 
-/* The octets of the next frame with its length, or 0 where it is not whole. */
+/* Returns the octets of the next frame with its length, or 0 if it is not whole. */
 static size_t next_frame(const unsigned char *octets, size_t have)
 {
     if (have < 2)
@@ -48,7 +50,7 @@ static size_t next_frame(const unsigned char *octets, size_t have)
     return end > have ? 0 : end;
 }
 
-/* How many octets go with the next write: those of one frame, or of all. */
+/* Returns how many octets the next write takes: those of one frame, or of all. */
 static size_t portion(const unsigned char *octets, size_t have)
 {
     size_t end = 0, frame;
@@ -60,7 +62,7 @@ static size_t portion(const unsigned char *octets, size_t have)
     return end;
 }
 
-/* Reads what there is and passes whole frames on; 0 at the end of the stream. */
+/* Reads a stream and passes whole frames on. Returns 0 at the end of the stream. */
 static int pass(int from, int count)
 {
     ssize_t came = read(streams[from].fd, held[from] + length[from], ROOM - length[from]);
@@ -82,8 +84,10 @@ static int pass(int from, int count)
 int main(int argc, char **argv)
 {
     int count = argc - 2, open = count;
-    if (count < 2 || count > MOST)
+    if (count < 2 || count > MOST) {
+        fprintf(stderr, "usage: hub each|all SOCKET SOCKET..\n");
         return 2;
+    }
     at_once = strcmp(argv[1], "all") == 0;
     for (int place = 0; place < count; place++) {
         streams[place].fd = connect_to(argv[place + 2]);

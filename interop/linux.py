@@ -1,8 +1,8 @@
 #!/usr/bin/env python3
 """The Linux kernel's 802.1ad bridge beside `pbnet step`, in a virtual machine under software emulation.
 
-The machine has the kernel of Debian's cloud image, and a file system of one small program, busybox and iproute2, made
-here. All rows are run in one boot.
+The machine runs the kernel of Debian's cloud image. Its file system has a small program, busybox and iproute2. All rows
+run in one boot.
 """
 
 import os
@@ -66,28 +66,28 @@ name = "green"
 vid = 300
 """
 
-# The ports here: c1, c2 and c3 at A, and those at B from which frames come in by the link, which is t1.
+# The customer ports of the plan: c1, c2 and c3 at A, and those at B whose frames enter A over the link, which is t1.
 CUSTOMERS = [("c1", "A", 2, "red"), ("c2", "A", 3, "red"), ("c3", "A", 4, "blue")]
 CUSTOMERS += [("b100", "B", 2, "red"), ("b200", "B", 3, "blue"), ("b300", "B", 4, "green")]
 AT = {"c1": 2, "c2": 3, "c3": 4, "t1": 1}
 
 TO, ONE, TWO = "ffffffffffff", "020000000001", "020000000002"
 
-TAKES = "Linux takes a customer's S-tag for its own where the port is a member; here it is refused"
-ELIGIBLE = "Linux keeps the drop eligibility of a priority S-tag; here it is 0"
-GROUP = "Linux drops a frame whose source is a group; here it is carried, and the source is not learnt"
-BELOW = "Linux carries what stands below a priority S-tag; here an S-tag there is refused"
+TAKES = "Linux takes a customer's S-tag as its own if the port is a member; pbnet refuses it"
+ELIGIBLE = "Linux keeps the drop eligibility of a priority S-tag; in pbnet it is 0"
+GROUP = "Linux drops a frame whose source is a group; pbnet carries it, and does not learn the source"
+BELOW = "Linux carries any tag after a priority S-tag; pbnet refuses an S-tag there"
 
 
 class Row:
-    """A frame that enters at a port, after some seconds; and why it may differ."""
+    """A frame that enters at a port after some seconds, and the reason of a listed difference."""
 
     def __init__(self, name, port, frame, reason=None, seconds=0):
         self.name, self.port, self.frame, self.reason, self.seconds = name, port, frame, reason, seconds
 
 
 def worked_rows():
-    """Frames of each kind at customer ports and at the link. The source of each is its own, so that none is known."""
+    """Returns frames of each kind at customer ports and at the link. Each has another source, which no bridge knows."""
     kinds = [
         ("untagged", "c1", "88b50102", None),
         ("customer tag, VID 5", "c1", "8100600588b50102", None),
@@ -98,16 +98,16 @@ def worked_rows():
         ("1,496 octets", "c1", "88b5" + "5a" * 1482, None),
         ("1,992 octets", "c1", "88b5" + "5a" * 1978, None),
         ("priority S-tag, priority 5", "c1", "88a8a00088b50102", None),
-        ("priority S-tag, priority 7, a customer tag below", "c1", "88a8e0008100600588b50102", None),
+        ("priority S-tag, priority 7, then a customer tag", "c1", "88a8e0008100600588b50102", None),
         ("priority S-tag, drop eligible", "c1", "88a8b00088b50102", ELIGIBLE),
         ("S-tag of its own service", "c1", "88a8006488b50102", TAKES),
         ("S-tag of another service", "c1", "88a800c888b50102", None),
-        ("an S-tag below a priority S-tag", "c1", "88a8a00088a800c888b50102", BELOW),
-        ("by the other service", "c3", "88b50102", None),
+        ("priority S-tag, then an S-tag", "c1", "88a8a00088a800c888b50102", BELOW),
+        ("in the other service", "c3", "88b50102", None),
         ("by the link, VID 100", "t1", "88a8006488b50102", None),
         ("by the link, VID 100, priority 6", "t1", "88a8c06488b50102", None),
         ("by the link, VID 200", "t1", "88a800c888b50102", None),
-        ("by the link, VID 100, a customer tag below", "t1", "88a800648100600588b50102", None),
+        ("by the link, VID 100, then a customer tag", "t1", "88a800648100600588b50102", None),
         ("by the link, VID 300, which no port has", "t1", "88a8012c88b50102", None),
     ]
     return [
@@ -121,23 +121,23 @@ def reserved_rows():
 
 
 def learning_rows():
-    """Stations are learnt by VID, move, and are forgotten after ten seconds."""
+    """Returns frames of stations that bridges learn for each VID, that move, and that age out after ten seconds."""
     return [
-        Row("to a station that is not known", "c1", TWO + ONE + "88b501"),
-        Row("it answers at c2, to a known one", "c2", ONE + TWO + "88b502"),
-        Row("to it", "c1", TWO + ONE + "88b503"),
-        Row("to it in the other service, by the link", "t1", TWO + "02000000000388a800c888b50404"),
-        Row("to one behind its own port", "c2", TWO + "02000000000488b505"),
-        Row("it moves behind the link", "t1", TO + TWO + "88a8006488b50606"),
-        Row("to it", "c1", TWO + ONE + "88b507"),
+        Row("to an unknown station", "c1", TWO + ONE + "88b501"),
+        Row("its reply from c2, to a known station", "c2", ONE + TWO + "88b502"),
+        Row("to the known station", "c1", TWO + ONE + "88b503"),
+        Row("to the same address in the other service, by the link", "t1", TWO + "02000000000388a800c888b50404"),
+        Row("to a station at the port of entry", "c2", TWO + "02000000000488b505"),
+        Row("from the station after it has moved to the link", "t1", TO + TWO + "88a8006488b50606"),
+        Row("to the moved station", "c1", TWO + ONE + "88b507"),
         Row("from a group address", "c1", TO + "03000000000588b508", GROUP),
-        Row("to it, after six seconds", "c1", TWO + ONE + "88b509", seconds=6),
-        Row("to it, after fourteen seconds", "c1", TWO + ONE + "88b50a", seconds=8),
+        Row("to the moved station, after six seconds", "c1", TWO + ONE + "88b509", seconds=6),
+        Row("to the moved station, after fourteen seconds", "c1", TWO + ONE + "88b50a", seconds=8),
         Row("to a group", "c2", "01005e000001" + TWO + "080045"),
     ]
 
 
-# Here
+# pbnet
 
 
 def our_plan():
@@ -148,7 +148,7 @@ def our_plan():
 
 
 def our_lines(row):
-    """The lines that bring a frame to a port of A, and those that see what leaves."""
+    """Returns the script lines that bring a frame to a port of A and send what leaves A."""
     if row.port == "t1":
         vid, priority = int(row.frame[28:32], 16) & 4095, int(row.frame[28], 16) >> 1
         bare = row.frame[:24] + (f"88a8{priority << 1:x}000" if priority else "") + row.frame[32:]
@@ -173,25 +173,25 @@ def our_lines(row):
 
 
 def ours(rows):
-    """What leaves at each port of A, by row: or why nothing does."""
+    """Returns for each row the frames that leave each port of A."""
     script = [line for row in rows for line in our_lines(row)]
     with common.Folder() as folder:
         (folder.path / "plan.toml").write_text(our_plan())
         lines = common.run("step", folder.path / "plan.toml", given="\n".join(script).encode())[0].split("\n")
-    told, start = [], 0
+    frames, start = [], 0
     for row in rows:
         count = len(our_lines(row))
         answers = lines[start : start + count][-7:-3]
-        told.append({port: answer[5:] for port, answer in zip(AT, answers) if answer.startswith("sent ")})
+        frames.append({port: answer[5:] for port, answer in zip(AT, answers) if answer.startswith("sent ")})
         start += count
-    return told
+    return frames
 
 
-# There
+# Linux
 
 
 def kernel(folder):
-    """The newest cloud kernel of Debian's, taken apart in the folder: its image and the modules in their order."""
+    """Unpacks Debian's newest cloud kernel. Returns its image, its modules in order of loading, and its release."""
     names = re.findall(
         r"linux-image-[0-9.-]+-cloud-amd64", common.output("apt-cache", "depends", "linux-image-cloud-amd64")
     )
@@ -207,7 +207,7 @@ def kernel(folder):
 
 
 def copy_with_libraries(program, root):
-    """A program and the libraries that it names, each at its path."""
+    """Copies a program and its libraries, each to its path."""
     wanted = [program] + re.findall(r"(/[^ ]+) \(0x", common.output("ldd", program))
     for path in wanted:
         target = root / path.lstrip("/")
@@ -247,7 +247,7 @@ def their_script(rows):
 
 
 def boot(folder, rows):
-    """What the machine prints on its console."""
+    """Returns what the machine prints on its console, and the release of its kernel."""
     image, modules, release = kernel(folder)
     initrd = file_system(folder, modules, their_script(rows))
     words = ["qemu-system-x86_64", "-m", "256", "-nographic", "-no-reboot", "-kernel", image, "-initrd", initrd]
@@ -256,7 +256,7 @@ def boot(folder, rows):
 
 
 def theirs(console, rows):
-    told = [{} for _ in rows]
+    frames = [{} for _ in rows]
     place = None
     for line in console.replace("\r", "").split("\n"):
         words = line.split(" ")
@@ -264,17 +264,17 @@ def theirs(console, rows):
             place = int(words[1])
         elif place is not None and words[0].startswith("out-") and len(words) == 2:
             port = words[0][4:]
-            told[place][port] = (told[place][port] + " and " if port in told[place] else "") + words[1]
-    return told
+            frames[place][port] = (frames[place][port] + " and " if port in frames[place] else "") + words[1]
+    return frames
 
 
 # Tables
 
 
-def shown(told):
-    """What leaves at each port, from the type on, in few characters."""
+def shown(frames):
+    """Returns a short text of what leaves each port, from the type field on."""
     parts = []
-    for port, frame in sorted(told.items()):
+    for port, frame in sorted(frames.items()):
         rest = frame[24:]
         parts.append(f"{port} {rest[:24]}{'...' if len(rest) > 24 else ''} ({len(frame) // 2})")
     return ", ".join(parts) or "nothing"
@@ -291,7 +291,7 @@ def main():
         console, release = boot(folder.path, rows)
     if "begin" not in console or "end" not in console:
         print(console)
-        raise SystemExit("the machine did not come to its end")
+        raise SystemExit("error: the virtual machine did not finish; its console is above")
     here, there = ours(rows), theirs(console, rows)
     tables = []
     for title, group in groups:

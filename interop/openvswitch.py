@@ -1,7 +1,7 @@
 #!/usr/bin/env python3
-"""Open vSwitch beside us: chained by sockets, its 802.1ad ports, and its rapid spanning tree.
+"""Compares pbnet with Open vSwitch: a chain over sockets, 802.1ad ports, and the rapid spanning tree.
 
-It runs in userspace with its dummy datapath, whose ports are Unix sockets, and needs no kernel module.
+Open vSwitch runs in userspace with its dummy datapath. Its ports are Unix sockets, and it needs no kernel module.
 """
 
 import os
@@ -15,7 +15,7 @@ SCHEMA = "/usr/share/openvswitch/vswitch.ovsschema"
 
 
 class Switch:
-    """An Open vSwitch of its own, in a folder."""
+    """A separate Open vSwitch in a folder."""
 
     def __init__(self, folder):
         self.folder, self.path = folder, folder.path / "ovs"
@@ -47,7 +47,7 @@ class Switch:
         self.vsctl(*words, f"other-config:hwaddr={address}")
 
     def port(self, bridge, name, *settings):
-        """A port at which a peer arrives by the path that is answered."""
+        """Adds a port, and returns the path to which its peer connects."""
         path = self.folder.path / f"{name}.sock"
         words = [
             "add-port",
@@ -68,11 +68,11 @@ class Switch:
         return self.port(bridge, name, "vlan_mode=dot1q-tunnel", f"tag={vid}", "other-config:qinq-ethtype=802.1ad")
 
 
-# Chained
+# The chain
 
 
 def chain_rows(table, folder):
-    """A driver, `pbnet run`, Open vSwitch and a driver again, in a row."""
+    """A driver, `pbnet run`, Open vSwitch and another driver, in a chain."""
     switch = Switch(folder)
     switch.bridge("chain", "02:00:00:00:00:0a")
     path, far = switch.port("chain", "to-pbnet"), Peer.to(switch.port("chain", "to-driver"))
@@ -145,7 +145,7 @@ TO, FROM = "ffffffffffff", "020000000001"
 
 
 def ours_on_link(frames):
-    """What crosses the link, or why not, for each frame that enters at red-a."""
+    """Returns what crosses the link, or the drop reason, for each frame that enters at red-a."""
     lines = (
         "poll red-a {}|feed red-a|receive A 2|transmit A 1|take L ab|put L ab|receive B 1|transmit B 2|deliver red-b"
     )
@@ -161,7 +161,7 @@ def ours_on_link(frames):
 
 
 class Services:
-    """The same services at two bridges of Open vSwitch, with a driver between them that sees the link."""
+    """The same services at two bridges of Open vSwitch, with a driver as the link between them."""
 
     def __init__(self, folder):
         self.switch, self.peers = Switch(folder), {}
@@ -178,7 +178,7 @@ class Services:
         time.sleep(0.5)
 
     def on_link(self, frame):
-        """What crosses the link, what leaves the far port of the service, and whether the other service sees it."""
+        """Returns what crosses the link, what leaves the far port of the service, and what leaves the other service."""
         self.peers["red-a"].send(bytes.fromhex(frame))
         wire = self.peers["link-a"].receive(0.6)
         if wire is None:
@@ -189,8 +189,8 @@ class Services:
         return wire.hex(), left.hex() if left else "idle", other.hex() if other else "idle"
 
 
-TWICE = "Open vSwitch tags every frame; a customer's own S-tag is refused here"
-PRIORITY = "Open vSwitch keeps the customer's tag below its own; here a priority S-tag gives its priority and comes off"
+TWICE = "Open vSwitch tags every frame; pbnet refuses a customer's own S-tag"
+PRIORITY = "Open vSwitch keeps the customer's tag after its own; pbnet takes the priority of a priority S-tag and removes the tag"
 
 TAGS = [
     ("untagged", TO + FROM + "88b50102", None),
@@ -200,25 +200,25 @@ TAGS = [
     ("tag of type 9100", TO + FROM + "9100006488b50102", None),
     ("length and LLC", TO + FROM + "0003424203", None),
     ("to a group", "01005e000001" + FROM + "080045", None),
-    ("to a station that is not known", "020000000009" + FROM + "080045", None),
+    ("to an unknown station", "020000000009" + FROM + "080045", None),
     ("14 octets", TO + FROM + "88b5", None),
     ("1,992 octets", TO + FROM + "88b5" + "5a" * 1978, None),
     ("S-tag of another service", TO + FROM + "88a800c888b50102", TWICE),
     ("S-tag of its own service", TO + FROM + "88a8006488b50102", TWICE),
     ("priority S-tag, priority 5", TO + FROM + "88a8a00088b50102", PRIORITY),
     ("priority S-tag, drop eligible", TO + FROM + "88a8b00088b50102", PRIORITY),
-    ("an S-tag below a priority S-tag", TO + FROM + "88a8a00088a800c888b5", TWICE),
+    ("priority S-tag, then an S-tag", TO + FROM + "88a8a00088a800c888b5", TWICE),
     (
-        "an S-tag that is cut off",
+        "a truncated S-tag",
         TO + FROM + "88a8006488",
-        "Open vSwitch drops it without a word; here it is filtered as `s-tagged`",
+        "Open vSwitch drops it without a report; pbnet filters it as `s-tagged`",
     ),
 ]
 
 
-def shown(told):
-    """What crossed and what left, in few characters."""
-    wire, left, other = told
+def shown(seen):
+    """Returns a short text of what crossed the link and what left."""
+    wire, left, other = seen
     if not set(wire) <= set("0123456789abcdef"):
         return wire
     text = f"{wire[24:60]}{'...' if len(wire) > 60 else ''} ({len(wire) // 2})"
@@ -239,11 +239,11 @@ def tag_rows(table, folder):
 
 RESERVED = [f"0180c20000{octet:02x}" for octet in range(16)]
 CARRIED = (0, 11, 12, 13, 15)
-SWITCH = "`forward-bpdu` is one switch for all sixteen; here the standard's list for provider bridges decides"
+SWITCH = "`forward-bpdu` is one switch for all sixteen; pbnet follows the standard's list for provider bridges"
 
 
 def reserved_rows(table, folder):
-    """The addresses -00 to -0F: carried by all, by none, or by the list of the standard."""
+    """The addresses -00 to -0F: all carried, none carried, or those of the standard's list."""
     services = Services(folder)
     ours = ours_on_link([to + FROM + "88b50102" for to in RESERVED])
     for word in ("true", "false"):
@@ -264,21 +264,21 @@ def reserved_rows(table, folder):
 # The spanning tree
 
 ADDRESS = (
-    "the source is the port's own address there, the bridge's here; the destination is that of customers' bridges there"
+    "Open vSwitch uses the port's address as the source, and the destination of customer bridges; pbnet uses the bridge's"
 )
 
-MACHINES = "its machines run one after the other, and the first BPDU goes before the agreement; here one call does all"
+MACHINES = "Open vSwitch runs its state machines in turn, and sends a BPDU before the agreement; pbnet does all in one call"
 
 
 def ours_settling():
-    """The BPDUs of the example `settling`: B1's proposal, B2's answer, B1's next."""
+    """Returns the BPDUs of the example `settling`: B1's proposal, B2's agreement, and B1's next one."""
     plan, script = (common.TOP / "examples" / f"settling.{end}" for end in ("toml", "steps"))
     lines = common.run("step", plan, given=script.read_bytes())[0].split("\n")
     return [bytes.fromhex(line[5:]) for line in lines if line.startswith("sent 0180c2000008")]
 
 
 def to_customers(frame):
-    """The BPDU as it goes to bridges that are not a provider's."""
+    """Returns the BPDU with the destination of customer bridges."""
     return bytes.fromhex("0180c2000000") + frame[6:]
 
 
@@ -295,8 +295,8 @@ def tree_switch(folder, address):
 
 def state(switch):
     text = switch.vsctl("get", "port", "lone", "rstp_status")
-    told = dict(part.strip(" {}\n").split("=") for part in text.split(",") if "=" in part)
-    return f"{told.get('rstp_port_role')} {told.get('rstp_port_state')}"
+    status = dict(part.strip(" {}\n").split("=") for part in text.split(",") if "=" in part)
+    return f"{status.get('rstp_port_role')} {status.get('rstp_port_state')}"
 
 
 def bpdu_row(table, name, here, there):
@@ -306,7 +306,7 @@ def bpdu_row(table, name, here, there):
 
 
 def root_rows(table, folder):
-    """Open vSwitch in the place of B1, the root."""
+    """Open vSwitch instead of B1, the root."""
     proposal, answer, after = ours_settling()
     switch, peer = tree_switch(folder, "02:00:00:00:00:01")
     bpdu_row(table, "B1 proposes", proposal, peer.receive(10))
@@ -315,12 +315,12 @@ def root_rows(table, folder):
     there = peer.receive(10)
     while there and there[12:] == proposal[12:]:
         there = peer.receive(10)
-    bpdu_row(table, "B1 has heard B2's agreement", after, there)
+    bpdu_row(table, "B1 has received B2's agreement", after, there)
     table.row("and forwards", "Designated Forwarding", state(switch))
 
 
 def other_rows(table, folder):
-    """Open vSwitch in the place of B2, behind the root."""
+    """Open vSwitch instead of B2, whose root is B1."""
     proposal, answer, _ = ours_settling()
     switch, peer = tree_switch(folder, "02:00:00:00:00:02")
     peer.receive(10)
@@ -339,8 +339,8 @@ def main():
         ("chained with `pbnet run`", chain_rows),
         ("S-tags, by `dot1q-tunnel` with `qinq-ethtype=802.1ad`", tag_rows),
         ("reserved addresses", reserved_rows),
-        ("spanning tree, in the place of the root", root_rows),
-        ("spanning tree, in the place of the other bridge", other_rows),
+        ("spanning tree, instead of the root", root_rows),
+        ("spanning tree, instead of the other bridge", other_rows),
     ]
     name = "Open vSwitch " + common.version("ovs-vswitchd", "--version").split()[-1]
     tables = []

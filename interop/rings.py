@@ -1,11 +1,11 @@
 #!/usr/bin/env python3
-"""Rings of bridges beside the same rings of Open vSwitch: outages after a link fails, port roles, and a flood.
+"""Compares rings of pbnet with rings of Open vSwitch: outages after a link fails, port roles, and a flood.
 
 usage: interop/rings.py [--trials N] [--seconds N] [rings] [flood]
 
 Two customers at opposite bridges of a ring send each other a frame every 5 ms. The first link of their path, at the
-root, is disabled at both ends. All rings are up side by side, and one trial runs at a time. RINGS_PLAIN=1 leaves the
-key `prompt` out of every plan, for a program that does not know it.
+root, is disabled at both ends. All rings run side by side, with one trial at a time. RINGS_PLAIN=1 omits the key
+`prompt` from every plan, for a program that lacks it.
 """
 
 import argparse
@@ -35,7 +35,7 @@ ROLES = ("Root", "Designated", "Alternate", "Backup", "Disabled")
 
 
 def plan(size, customers, prompt):
-    """A ring in which port 1 of each bridge leads to port 2 of the next. Customers are names with bridges' numbers."""
+    """Returns the plan of a ring: port 1 of each bridge leads to port 2 of the next. Customers are (name, bridge number)."""
     text = '[[service]]\nname = "s"\nvid = 100\n[network]\nspanning = "rstp"\ntick_ms = 1000\n'
     text += "" if WITHOUT_KEY else f"prompt = {str(prompt).lower()}\n"
     for n in range(1, size + 1):
@@ -62,32 +62,32 @@ class Ours:
         self.peers = [Peer.to(folder.path / f"{name}.sock") for name, _ in customers]
         # A signal ends the run only after the control socket's client has disconnected.
         self.control = stack.enter_context(Peer.to(folder.path / "control").stream)
-        self.answers = stack.enter_context(self.control.makefile("r", encoding="ascii"))
+        self.responses = stack.enter_context(self.control.makefile("r", encoding="ascii"))
 
     def ask(self, command):
-        """The lines of an answer before its `ok`."""
+        """Returns the lines of a response before its `ok`."""
         self.control.sendall(f"{command}\n".encode())
         lines = []
-        while (line := self.answers.readline()) not in ("ok\n", ""):
+        while (line := self.responses.readline()) not in ("ok\n", ""):
             lines.append(line)
         return lines
 
     def order(self, word):
-        """Disables or enables the link by `down` or `up`. The answers are read later."""
+        """Disables or enables the link by `down` or `up`. The responses are read later."""
         self.control.sendall(f"{word} B1 1\n{word} B2 2\n".encode())
 
     def obeyed(self):
-        return [self.answers.readline() for _ in range(2)] == ["ok\n"] * 2
+        return [self.responses.readline() for _ in range(2)] == ["ok\n"] * 2
 
     def roles(self):
-        """The role of each port of the ring, by the numbers of the bridge and of the port."""
+        """Returns the role of each port of the ring, by the numbers of the bridge and of the port."""
         lines = [line.split() for line in self.ask("tree")]
         return {(int(words[1][1:]), int(words[2])): words[3].capitalize() for words in lines}
 
     def stop(self):
-        """The loss report."""
+        """Ends the run, and returns its loss report."""
         self.ask("stop")
-        self.answers.close()
+        self.responses.close()
         self.control.close()
         return self.process.communicate(timeout=60)[1].decode()
 
@@ -133,7 +133,7 @@ class Theirs:
 
 
 class End:
-    """A customer in a trial: sends numbered frames, and keeps when those of the other arrived."""
+    """A customer in a trial. It sends numbered frames, and keeps the arrival times of the other's frames."""
 
     def __init__(self, peer, octet, other, mark):
         self.peer, self.arrived, self.kept = peer, {}, b""
@@ -152,8 +152,8 @@ class End:
                 self.arrived.setdefault(int.from_bytes(frame[18:22], "big"), now)
 
     def outage(self, failed, first, last):
-        """Seconds from the failure to the first frame that arrives after the first loss, or None; and the losses among
-        the frames from the number `first`, the last one sent before the failure, to `last`."""
+        """Returns the seconds from the failure to the first arrival after the first loss, or None, and the number of lost
+        frames from `first`, the last one sent before the failure, to `last`."""
         lost = [number for number in range(first, last) if number not in self.arrived]
         start = lost[0] if lost else first
         again = min((at for number, at in self.arrived.items() if number > start), default=None)
@@ -161,7 +161,7 @@ class End:
 
 
 def trial(ring):
-    """Fails the link while frames cross the ring. Returns the outage of the end that waits longer."""
+    """Disables the link while frames cross the ring. Returns the longer outage of the two customers."""
     mark = random.randbytes(4)
     ends = [End(ring.peers[0], 1, 2, mark), End(ring.peers[1], 2, 1, mark)]
     streams = {end.peer.stream: end for end in ends}
@@ -189,7 +189,8 @@ def trial(ring):
 
 
 def counted(roles):
-    """The ports in each role, and the place of the Alternate port. The link is on the path if it is the far port 1."""
+    """Returns a text of the ports in each role, and of the Alternate port. The failed link is on the path if that is the
+    far port 1."""
     counts = collections.Counter(roles.values())
     places = [f", at B{n} port {port}" for (n, port), role in roles.items() if role == "Alternate"]
     return ", ".join(f"{counts[role]} {role}" for role in ROLES if counts[role]) + "".join(places)
@@ -201,7 +202,7 @@ def cell(outages):
 
 
 def ring_rows(trials):
-    """Prints the outages. Returns the table of what has to be alike."""
+    """Prints the outages. Returns the table of what must be alike."""
     table = common.Table("Rings beside Open vSwitch: port roles, and trials in which frames arrive again")
     with contextlib.ExitStack() as stack:
         rings = {}
@@ -216,7 +217,7 @@ def ring_rows(trials):
         for number in range(trials):
             for key, ring in rings.items():
                 time.sleep(max(0, starts[key] - time.monotonic()))
-                print(f"trial {number + 1}: {key[1]} bridges, {key[0]}", file=sys.stderr, flush=True)
+                print(f"note: trial {number + 1}: {key[1]} bridges, {key[0]}", file=sys.stderr, flush=True)
                 found[key].append(trial(ring))
                 if number < trials - 1:
                     ring.order("up")
@@ -241,7 +242,7 @@ def ring_rows(trials):
 
 
 def changes(ring, seconds):
-    """How many times a port of the ring has another role or state than 50 ms before."""
+    """Returns how many times a port of the ring has another role or state than 50 ms before."""
     trees, end = [ring.ask("tree")], time.monotonic() + seconds
     while time.monotonic() < end:
         time.sleep(0.05)
@@ -280,14 +281,18 @@ def flood_row(seconds, bridges):
 
 
 def main():
-    parser = argparse.ArgumentParser(usage=__doc__.split("usage: ")[1])
-    parser.add_argument("--trials", type=int, default=5)
-    parser.add_argument("--seconds", type=int, default=12)
-    parser.add_argument("parts", nargs="*", default=["rings", "flood"])
+    text, usage, notes = re.fullmatch(r"(.*?)\n\nusage: (.*?)\n\n(.*)", __doc__, re.S).groups()
+    parser = argparse.ArgumentParser(usage=usage, description=text, epilog=notes)
+    parser.add_argument("--trials", type=int, default=5, metavar="N", help="the trials of each ring [default: 5]")
+    parser.add_argument("--seconds", type=int, default=12, metavar="N", help="the seconds of a flood [default: 12]")
+    parser.add_argument("parts", nargs="*", default=["rings", "flood"], metavar="PART", help="rings, flood [default: both]")
     given = parser.parse_args()
+    for part in given.parts:
+        if part not in ("rings", "flood"):
+            parser.error(f"unknown part '{part}'")
     if "flood" in given.parts:
         print(f"Three customers flood a ring of four with queues of 64 for {given.seconds} seconds, {PROMPT}.\n")
-        print("| Customers at | Changes before | In the flood | BPDUs lost | Frames entered | Copies lost |")
+        print("| Customers at | Changes before | During the flood | BPDUs lost | Frames entered | Copies lost |")
         print("|---" + "|---:" * 5 + "|")
         for bridges in ("B1, B2, B3", "B1, B1, B1"):
             flood_row(given.seconds, bridges)

@@ -1,6 +1,6 @@
-"""A second network of provider bridges, written from the pages of docs/ alone.
+"""A second implementation of a network of provider bridges, written from the pages of docs/ alone.
 
-It is slow and plain: one list a queue, one dictionary a learning table, and no proof.
+It is slow and plain: a queue is a list, a learning table is a dictionary, and nothing is proved.
 """
 
 import re
@@ -17,12 +17,12 @@ LONGEST_LINE = 140000
 MOST_STATIONS = 4096
 FLAT_STEPS = 1000000
 
-# The traffic class of each priority, as IEEE 802.1Q has them for eight classes: 1 is below 0.
+# The traffic class of each priority for eight classes (IEEE 802.1Q): that of 1 is below that of 0.
 CLASSES = (1, 0, 2, 3, 4, 5, 6, 7)
 
 
 class EndsEarly(Exception):
-    """A line `fault:` ends the run."""
+    """A line `fault:` ends the command."""
 
 
 # Frames
@@ -37,7 +37,7 @@ def has_priority_tag(octets):
 
 
 def refusal(octets):
-    """Why a customer port does not let a frame in, or None."""
+    """Returns why a customer port refuses a frame, or None."""
     tagged = has_priority_tag(octets)
     if len(octets) < 14:
         return "malformed"
@@ -59,7 +59,7 @@ def with_tag(octets, priority, vid):
 
 
 class Stations:
-    """Where stations are, by service."""
+    """The learning table: the port of each station, by VID."""
 
     def __init__(self, ageing=None):
         self.ageing, self.ticks, self.known = ageing, 0, {}
@@ -269,7 +269,7 @@ class Customer(Place):
 
 
 def has_loop(count, edges):
-    """Whether edges between numbers below count close a ring."""
+    """Returns whether edges between the numbers below count have a loop."""
     above = list(range(count))
 
     def top(one):
@@ -319,7 +319,7 @@ class Network:
         self.by_number[row["at"]].ports[row["port"]] = customer.local
         self.customers[row["name"]] = customer
 
-    # What is told of the whole
+    # The report
 
     def loops(self):
         named = []
@@ -372,7 +372,7 @@ class Network:
         return do(lane) if lane else "no such"
 
     def answer(self, words):
-        """The answer to the words of a line, or None for a bad one."""
+        """Returns the output of a line by its words, or None if it is not a valid line."""
         shape = [words[0]] + [len(words)]
         name = words[1].decode("ascii") if len(words) > 1 and NAME.match(words[1]) else None
         if name is None:
@@ -412,7 +412,7 @@ def lines_of(octets):
     return lines[:-1] if lines[-1] == b"" else lines
 
 
-# The commands: what is printed, and the exit status
+# The commands: each returns its output and its exit status
 
 
 def check(plan_octets):

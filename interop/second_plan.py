@@ -1,6 +1,6 @@
-"""A second reading of plan files, written from docs/PLAN_FILE.md alone.
+"""A second implementation of plan files, written from docs/PLAN_FILE.md alone.
 
-read_plan(octets) gives a Plan, or raises Fault with the text that `check` prints behind `plan: `.
+read_plan(octets) returns a Plan, or raises Fault with the text that `check` prints after `plan: `.
 """
 
 import re
@@ -13,12 +13,12 @@ HEX = re.compile(r"([0-9A-Fa-f]{2})*\Z")
 STATES = ("discarding", "learning", "forwarding")
 KINDS = ("memory", "capture", "socket")
 MOST = {"bridge": 32, "link": 64, "service": 64, "event": 128, "port": 128}
-# Where the file sets no limit.
+# The value if the file sets no limit.
 UNLIMITED = 2**64 - 1
 
 
 class Fault(Exception):
-    """The first rule that a file breaks."""
+    """The first error of a file."""
 
 
 @dataclass
@@ -44,7 +44,7 @@ class Plan:
     ports: list = field(default_factory=list)
 
 
-# Each kind of value: whether it is of the key's type, and whether it is one that the key allows.
+# A kind of value is two tests: whether the value has the key's type, and whether the key allows it.
 
 
 def is_number(value):
@@ -156,7 +156,7 @@ OF_KIND = {
 
 
 def read_key(table, place, key, kind, default):
-    """The value of one key, by the order missing, kind, range."""
+    """Returns the value of a key. Its errors come in the order missing, kind, range."""
     if key not in table:
         if default is NONE:
             raise Fault(f"3 missing {place}.{key}")
@@ -170,7 +170,7 @@ def read_key(table, place, key, kind, default):
 
 
 def read_table(table, place, array):
-    """The values of one table's keys, and no unknown ones."""
+    """Returns the values of a table's keys, if it has no unknown ones."""
     values = {}
     for key, kind, default in KEYS[array]:
         values[key] = read_key(table, place, key, kind, default)
@@ -185,7 +185,7 @@ def read_table(table, place, array):
 
 
 def check_network(row):
-    """Bridges tick by turns or by time, frames are held back only if bridges tick, and ports are prompt only under rstp."""
+    """Checks that bridges tick by turns or by time, that frames are held only if bridges tick, and `prompt` only with rstp."""
     if row["tick_every"] and row["tick_ms"]:
         raise Fault("5 range network.tick_ms")
     if row["hold"] and not (row["tick_every"] or row["tick_ms"]):
@@ -227,7 +227,7 @@ def read_bridges(document):
 
 
 def service_names(document):
-    """The names in the file's service tables, which are looked at later than links."""
+    """Returns the names in the file's service tables, which are checked after links."""
     found = document.get("service", [])
     found = found if isinstance(found, list) else []
     return [table.get("name") for table in found if isinstance(table, dict)]
@@ -274,8 +274,8 @@ def read_services(document):
     return rows
 
 
-def look_at_events(document, bridges, used):
-    """Events set ports up and down at which links end. Only those are used so far."""
+def check_events(document, bridges, used):
+    """Checks that events enable and disable ports with links. Only such ports are in use so far."""
     for place, table in enumerate(tables_of(document, "event")):
         row = read_table(table, f"event[{place}]", "event")
         if (index_of(bridges, row["bridge"]), row["port"]) not in used:
@@ -308,7 +308,7 @@ def read_document(octets):
 
 
 def has_wide_number(value):
-    """Whether a whole number outside 64 bits with a sign stands somewhere."""
+    """Returns whether the document has a whole number outside signed 64 bits."""
     if isinstance(value, dict):
         return any(map(has_wide_number, value.values()))
     if isinstance(value, list):
@@ -333,7 +333,7 @@ def read_plan(octets):
     plan.bridges = read_bridges(document)
     plan.links = read_links(document, plan.bridges, used)
     plan.services = read_services(document)
-    look_at_events(document, plan.bridges, used)
+    check_events(document, plan.bridges, used)
     plan.ports = read_ports(document, plan, used, row["tick_ms"] > 0)
     for link in plan.links:
         for end in (link["end_a"], link["end_b"]):

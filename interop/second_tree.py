@@ -1,4 +1,4 @@
-"""A second rapid spanning tree, written from docs/SPANNING_TREE.md alone."""
+"""A second implementation of the rapid spanning tree, written from docs/SPANNING_TREE.md alone."""
 
 from dataclasses import dataclass
 
@@ -11,7 +11,7 @@ HELLO, MAX_AGE, FORWARD_DELAY = 2 * 256, 20 * 256, 15 * 256
 
 @dataclass(frozen=True)
 class Message:
-    """What a BPDU tells. The role is that of its flags: 1 alternate or backup, 2 root, 3 designated."""
+    """The contents of a BPDU. The role is that of its flags: 1 alternate or backup, 2 root, 3 designated."""
 
     root: int
     cost: int
@@ -32,7 +32,7 @@ class Message:
         return self.root, self.cost, self.bridge, self.port
 
     def octets(self, source):
-        """The frame, from its destination address on."""
+        """Returns the frame, from its destination address on."""
         flags = self.change | self.proposal << 1 | self.role << 2 | self.learning << 4
         flags |= self.forwarding << 5 | self.agreement << 6
         octets = bytes.fromhex("0180c2000008") + source + bytes.fromhex("002742420300000202")
@@ -54,7 +54,7 @@ class TreePort:
 
 
 class Change:
-    """What a call tells: new states, ports to be flushed, messages to be sent, each by port."""
+    """The changes of a call, by port: new states, ports to flush, and BPDUs to send."""
 
     def __init__(self):
         self.states, self.flushed, self.messages = {}, set(), []
@@ -71,8 +71,8 @@ class Tree:
     # Vectors
 
     def way(self, port):
-        told = port.info
-        return told.root, min(told.cost + port.cost, HIGHEST_COST), told.bridge, told.port, port.id
+        info = port.info
+        return info.root, min(info.cost + port.cost, HIGHEST_COST), info.bridge, info.port, port.id
 
     def root_vector(self):
         ways = [self.way(port) for port in self.ports.values() if port.up and port.info and port.info.bridge != self.id]
@@ -110,9 +110,9 @@ class Tree:
         return self.settle(before, port, message, stored)
 
     def store(self, port, message):
-        told = port.info
-        if told and not message.vector() < told.vector():
-            if (message.bridge, message.port) != (told.bridge, told.port):
+        info = port.info
+        if info and not message.vector() < info.vector():
+            if (message.bridge, message.port) != (info.bridge, info.port):
                 return False
         if message.age + 256 > message.max_age:
             port.info = None
@@ -135,10 +135,10 @@ class Tree:
                 if port.wait <= 0:
                     port.state += 1
                     port.wait = wait
-        self.tell_hello()
+        self.send_hello()
         return self.settle(before)
 
-    def tell_hello(self):
+    def send_hello(self):
         if self.hello > 0:
             self.hello -= 1
         if self.hello > 0:
@@ -159,7 +159,7 @@ class Tree:
             port.wait = port.changing = 0
         return self.settle(before)
 
-    # Bringing into line
+    # After each call: roles, states, topology changes and BPDUs
 
     def before(self):
         offer = self.root[:2], self.times()
@@ -172,8 +172,8 @@ class Tree:
         wait = self.new_wait()
         self.move_states(old, wait)
         if stored and message.proposal and heard_at.role != DESIGNATED:
-            self.answer_proposal(heard_at, wait)
-        self.tell_changes(old, heard_at, message, change)
+            self.agree_to_proposal(heard_at, wait)
+        self.report_changes(old, heard_at, message, change)
         for number, port in self.ports.items():
             if port.state != old[number][1]:
                 change.states[number] = port.state
@@ -210,14 +210,14 @@ class Tree:
             if port.role == DESIGNATED and port.agreed:
                 port.state = FORWARDING
 
-    def answer_proposal(self, heard_at, wait):
+    def agree_to_proposal(self, heard_at, wait):
         if heard_at.role == ROOT:
             for port in self.ports.values():
                 if port.role == DESIGNATED and not port.agreed and port.state != DISCARDING:
                     self.hold_back(port, wait)
         heard_at.agree = heard_at.due = True
 
-    def tell_changes(self, old, heard_at, message, change):
+    def report_changes(self, old, heard_at, message, change):
         for number, port in self.ports.items():
             if port.state == FORWARDING and old[number][1] != FORWARDING:
                 self.change_topology(change, port, None)
@@ -240,10 +240,10 @@ class Tree:
                 change.messages.append((number, self.message(port)))
 
     def times(self):
-        told = self.root_port()
-        if not told:
+        port = self.root_port()
+        if not port:
             return 0, MAX_AGE, HELLO, FORWARD_DELAY
-        info = told.info
+        info = port.info
         return min(info.age + 256, 65535), info.max_age, info.hello, info.delay
 
     def message(self, port):
@@ -260,7 +260,7 @@ class Tree:
 
 
 def are_settled(trees, links):
-    """Whether each link with both ends up has one Designated end, whose vector the other end stores."""
+    """Returns whether each link with both ends enabled has one Designated end, whose vector the other end stores."""
     for (one, at_one), (two, at_two) in links:
         ends = [(trees[one], trees[one].ports[at_one]), (trees[two], trees[two].ports[at_two])]
         if not all(port.up for _, port in ends):

@@ -1,9 +1,8 @@
 #!/usr/bin/env python3
-"""How many frames a second pass `pbnet run` over sockets, two plain hubs and a VDE switch, in turn on one machine.
+"""Measures how many frames a second pass `pbnet run` over sockets, two plain hubs and a VDE switch, in turn.
 
-A sender gives broadcasts to one port, and one or four receivers stand at others. No more than a window of frames is on
-its way to the slowest receiver, so that nothing is lost for want of room. Nobody but the machine decides the figures:
-no row fails by them, but each frame has to arrive.
+A sender sends broadcasts to one port, and one or four receivers are at other ports. At most a window of frames is on its
+way to the slowest receiver, and no queue overflows. No row fails by its rate, but each frame must arrive.
 """
 
 import argparse
@@ -18,10 +17,10 @@ import captures
 import common
 from streams import Listener
 
-# The hubs are one program: the first writes each frame by itself, the second all that a read brought.
+# Both hubs are interop/hub.c: the first writes each frame by itself, the second all frames of a read at once.
 PROGRAMS = ("pbnet run", "hub, each", "hub, all", "VDE")
 
-# A VDE switch loses frames where more than some dozens wait for a plug.
+# A VDE switch loses frames if more than some dozens wait for a plug.
 WINDOW = {"pbnet run": 1024, "hub, each": 1024, "hub, all": 1024, "VDE": 32}
 
 
@@ -35,7 +34,7 @@ def plan(receivers):
 
 
 def start_listening(folder, words, paths):
-    """The streams of a program that connects to the driver's sockets."""
+    """Starts a program that connects to the driver's sockets, and returns their streams."""
     listeners = [Listener(folder.path / path) for path in paths]
     folder.start(*words)
     return [listener.accept() for listener in listeners]
@@ -66,7 +65,7 @@ def start(folder, name, receivers):
 
 
 class Receiver:
-    """Counts the octets that come by a stream, in a thread."""
+    """Counts the octets of a stream, in a thread."""
 
     def __init__(self, stream, want, moved):
         self.stream, self.want, self.count, self.moved = stream, want, 0, moved
@@ -86,7 +85,7 @@ class Receiver:
 
 
 def measure(name, octets, receivers, frames):
-    """Frames a second, and whether all arrived."""
+    """Returns the frames a second, and whether all arrived."""
     wire = octets.to_bytes(2, "big") + captures.frame(octets)
     with common.Folder() as folder:
         streams = start(folder, name, receivers)
@@ -115,7 +114,7 @@ def measure(name, octets, receivers, frames):
 
 
 def rates(octets, receivers, frames, rounds):
-    """The rates of all programs, round by round in turn, and whether every frame arrived."""
+    """Returns the rates of all programs, which run in turn, and whether every frame arrived."""
     found, whole = {name: [] for name in PROGRAMS}, {name: True for name in PROGRAMS}
     for _ in range(rounds):
         for name in PROGRAMS:
@@ -129,15 +128,21 @@ def cell(values):
     return f"{statistics.median(values) / 1000:.0f} ({min(values) / 1000:.0f} to {max(values) / 1000:.0f})"
 
 
+def processor():
+    """Returns the model of the processor."""
+    with open("/proc/cpuinfo", encoding="utf-8") as it:
+        return next((line.split(": ", 1)[1].strip() for line in it if line.startswith("model name")), "unknown processor")
+
+
 def main():
     parser = argparse.ArgumentParser(description=__doc__.split("\n")[0])
-    parser.add_argument("--frames", type=int, default=131072)
-    parser.add_argument("--rounds", type=int, default=3)
+    parser.add_argument("--frames", type=int, default=131072, metavar="N", help="the frames of a run [default: 131072]")
+    parser.add_argument("--rounds", type=int, default=3, metavar="N", help="the rounds of each row [default: 3]")
     given = parser.parse_args()
     arrived = common.Table("Every frame arrives")
-    load = f"Load {os.getloadavg()[0]:.1f} on {os.cpu_count()} processors."
-    print(f"Thousand frames a second: the median of {given.rounds} rounds, the least and the most. {load}\n")
-    heads = ["Octets", "Receivers", *PROGRAMS, *(f"to {name}" for name in PROGRAMS[1:])]
+    load = f"{processor()}, {os.cpu_count()} processors, load {os.getloadavg()[0]:.1f}, {time.strftime('%F', time.gmtime())}."
+    print(f"Thousand frames a second: the median of {given.rounds} rounds, the least and the most. {load}\n", flush=True)
+    heads = ["Octets", "Receivers", *PROGRAMS, *(f"pbnet to {name}" for name in PROGRAMS[1:])]
     print("| " + " | ".join(heads) + " |\n|" + "---:|" * len(heads))
     for octets in (64, 1500):
         for receivers in (1, 4):

@@ -1,4 +1,4 @@
-"""Streams of frames over Unix sockets, each frame behind its length in two octets, the higher one first."""
+"""Streams of frames over Unix sockets. Each frame follows its length in two octets, the higher one first."""
 
 import socket
 import threading
@@ -21,11 +21,11 @@ class Peer:
         self.stream.sendall(len(frame).to_bytes(2, "big") + frame)
 
     def shut(self):
-        """No more frames are sent from here."""
+        """Ends the sending direction."""
         self.stream.shutdown(socket.SHUT_WR)
 
     def receive(self, wait=2.0):
-        """The next frame, or None where the stream ends or none comes in that many seconds."""
+        """Returns the next frame, or None if the stream ends or no frame comes within these seconds."""
         self.stream.settimeout(wait)
         try:
             while len(self.kept) < 2 or len(self.kept) < 2 + int.from_bytes(self.kept[:2], "big"):
@@ -40,7 +40,7 @@ class Peer:
         return frame
 
     def receive_many(self, count, wait=20.0):
-        """At most so many frames: fewer where none comes for that many seconds."""
+        """Returns this many frames, or fewer if no frame comes within these seconds."""
         frames = []
         while len(frames) < count and (frame := self.receive(wait)) is not None:
             frames.append(frame)
@@ -51,7 +51,7 @@ class Peer:
 
 
 class Listener:
-    """A socket at which the other side arrives."""
+    """A socket to which the other side connects."""
 
     def __init__(self, path):
         self.listening = socket.socket(socket.AF_UNIX, socket.SOCK_STREAM)
@@ -66,9 +66,9 @@ class Listener:
 
 
 def exchange(near, far, frames, window=64):
-    """Sends frames at one peer while the other receives; what came, in order.
+    """Sends frames to one peer while the other receives. Returns the received frames, in order.
 
-    No more than a window of frames is on its way, so that no queue of another program overflows.
+    At most a window of frames is on its way, and no queue of another program overflows.
     """
     room, came = threading.Semaphore(window), []
 

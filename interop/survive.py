@@ -1,12 +1,12 @@
 #!/usr/bin/env python3
-"""Compares what `pbnet survive` prints of random plans with a plain search over the plan's graph.
+"""Compares the reports of `pbnet survive` on random plans with a plain search over the plan's graph.
 
 usage: interop/survive.py [--program FILE] [--plans N] [--seed N]
 
-Half of the plans give the states of ports, some discarding, and lists of services; what is left of their links under a
-failure is all there is. The other half have bridges that find a spanning tree, and links for all services: a settled tree
-joins all bridges that the links left join. How many ticks settling takes is not compared. Half of each are analysed with
-`--own`. What differs is told with the plan, with exit status 1."""
+Half of the plans give the states of ports, some of them discarding, and lists of services: the remaining forwarding links
+connect what they connect. The other half use RSTP with links for all services: after convergence the tree connects all
+bridges that the remaining links connect. Ticks are not compared. Half of each are analysed with `--own`. A report that
+differs is printed with its plan, and the exit status is 1."""
 import argparse
 import itertools
 import random
@@ -21,7 +21,7 @@ SERVICES = ["red", "blue", "green"]
 
 
 class Plan:
-    """A random plan: links are (bridge, port, bridge, port, state of b, services or None)."""
+    """A random plan. Links are (bridge, port, bridge, port, state of b, services or None)."""
 
     def __init__(self, draw, is_given, own):
         self.is_given = is_given
@@ -49,7 +49,7 @@ class Plan:
                 self.ports.append((bridge, port(bridge), draw.choice(self.services)))
 
     def text(self):
-        """The plan file."""
+        """Returns the plan file."""
         lines = ["[network]"] + ([] if self.is_given else ['spanning = "rstp"'])
         for b in range(1, self.bridges + 1):
             lines += ["[[bridge]]", f'name = "B{b}"', f'address = "02-00-00-00-00-{b:02x}"']
@@ -63,15 +63,15 @@ class Plan:
             lines += ["[[port]]", f'name = "C{n}"', f'bridge = "B{bridge}"', f"port = {local}", f'service = "{service}"']
         return "\n".join(lines) + "\n"
 
-    def left(self, failure):
-        """The numbers of the links that are left."""
+    def remaining(self, failure):
+        """Returns the numbers of the links that remain."""
         kind, *what = failure
         if kind == "bridge":
             return [n for n, link in enumerate(self.links, 1) if what[0] not in (link[0], link[2])]
         return [n for n in range(1, len(self.links) + 1) if n not in what]
 
     def view(self, failure, service):
-        """Whether the active links are a forest, and the groups of the service's ports."""
+        """Returns whether the active links are a forest, and the groups of the service's ports."""
         top = {b: b for b in range(1, self.bridges + 1)}
 
         def find(b):
@@ -80,7 +80,7 @@ class Plan:
             return b
 
         is_forest = True
-        for n in self.left(failure):
+        for n in self.remaining(failure):
             a, _, b, _, state, listed = self.links[n - 1]
             if state == "forwarding" and (listed is None or service in listed):
                 is_forest = is_forest and find(a) != find(b)
@@ -94,7 +94,7 @@ class Plan:
 
 
 def unhealthy(name, view):
-    """The reasons why a service is not healthy."""
+    """Returns the reasons why a service is not healthy."""
     is_forest, groups = view
     reasons = ["is disconnected"] if len(groups) > 1 else []
     reasons += [] if is_forest else ["has a forwarding loop"]
@@ -102,8 +102,13 @@ def unhealthy(name, view):
     return [f"service {name} {reason}" for reason in reasons]
 
 
+def counted(number, noun):
+    """Returns a number and a noun, which has an `s` unless the number is 1."""
+    return f"{number} {noun}{'' if number == 1 else 's'}"
+
+
 def report(plan):
-    """What is to be printed, without numbers of ticks."""
+    """Returns the expected report, without numbers of ticks, and the exit status."""
     rest = "states given" if plan.is_given else "settled ticks N"
     count = len(plan.links)
     failures = [("link", n) for n in range(1, count + 1)] + [("bridge", b) for b in range(1, plan.bridges + 1)]
@@ -119,8 +124,8 @@ def report(plan):
     def counts(failure, port):
         return plan.own or failure[0] != "bridge" or plan.ports[port - 1][0] != failure[1]
 
-    def is_parted(failure, old, new):
-        """Whether a group of ports that count is in several groups."""
+    def is_split(failure, old, new):
+        """Returns whether a group of ports that count is split into several groups."""
         judged = {n for n in old if counts(failure, n)}
         return sum(1 for group in new if set(group) & judged) > 1
 
@@ -131,42 +136,44 @@ def report(plan):
     reasons = {s: unhealthy(s, base[s]) for s in plan.services}
     lines += [reason for s in plan.services for reason in reasons[s]]
     sick = sum(1 for s in plan.services if reasons[s])
-    health = f"not healthy with nothing down: {sick} services" if sick else "healthy with nothing down"
+    health = f"not healthy with nothing down: {counted(sick, 'service')}" if sick else "healthy with nothing down"
     lines.append(health)
-    parting = looping = 0
+    splitting = looping = 0
     for failure in failures:
         views = {s: plan.view(failure, s) for s in plan.services}
-        parted = {s: any(is_parted(failure, old, views[s][1]) for old in base[s][1]) for s in plan.services}
+        split = {s: any(is_split(failure, old, views[s][1]) for old in base[s][1]) for s in plan.services}
         is_loop = not all(v[0] for v in views.values())
-        parting += any(parted.values())
+        splitting += any(split.values())
         looping += is_loop
-        if not is_loop and not any(parted.values()):
+        if not is_loop and not any(split.values()):
             continue
         letter = "B" if failure[0] == "bridge" else "L"
         lines.append(head(" ".join([failure[0]] + [f"{letter}{n}" for n in failure[1:]]), views))
         for s in plan.services:
             lines += [] if views[s][0] else [f"  loop {s}"]
-            lines += [shown(s, views[s][1])] if parted[s] else []
+            lines += [shown(s, views[s][1])] if split[s] else []
     every = len(failures)
     pairs = count * (count - 1) // 2
-    lines.append(f"checked {count} links, {plan.bridges} bridges" + (f", {pairs} pairs" if pairs else ""))
-    lines += [f"{every - parting} of {every} failures disconnect nothing"] if parting < every else []
+    kinds = [counted(count, "link"), counted(plan.bridges, "bridge")] + ([counted(pairs, "pair")] if pairs else [])
+    lines.append(f"checked {', '.join(kinds)}")
+    lines += [f"{every - splitting} of {every} failures disconnect nothing"] if splitting < every else []
     lines += [] if plan.is_given else ["converges within N ticks"]
-    lines += [f"{parting} of {every} failures disconnect a service"] if parting else []
+    lines += [f"{splitting} of {every} failures disconnect a service"] if splitting else []
     lines += [f"{looping} of {every} failures form a forwarding loop"] if looping else []
     if sick:
         lines.append(health)
-    elif not parting and not looping:
+    elif not splitting and not looping:
         lines.append("survives every single failure")
-    return "\n".join(lines) + "\n", 4 if sick or parting or looping else 0
+    return "\n".join(lines) + "\n", 4 if sick or splitting or looping else 0
 
 
 def main():
-    words = argparse.ArgumentParser(usage=__doc__.split("usage: ")[1])
-    words.add_argument("--program", default=common.PROGRAM)
-    words.add_argument("--plans", type=int, default=500)
-    words.add_argument("--seed", type=int, default=1)
-    given = words.parse_args()
+    text, usage, notes = re.fullmatch(r"(.*?)\n\nusage: (.*?)\n\n(.*)", __doc__, re.S).groups()
+    parser = argparse.ArgumentParser(usage=usage, description=text, epilog=notes)
+    parser.add_argument("--program", default=common.PROGRAM, metavar="FILE", help="the program [default: ./pbnet]")
+    parser.add_argument("--plans", type=int, default=500, metavar="N", help="the number of plans [default: 500]")
+    parser.add_argument("--seed", type=int, default=1, metavar="N", help="the seed of the plans [default: 1]")
+    given = parser.parse_args()
     draw = random.Random(given.seed)
     wrong = 0
     with tempfile.TemporaryDirectory() as folder:
@@ -177,12 +184,12 @@ def main():
                 it.write(plan.text())
             options = ["--pairs", "--bridges"] + (["--own"] if plan.own else [])
             ran = subprocess.run([given.program, "survive", *options, file], capture_output=True, text=True)
-            told = re.sub(r"(ticks|converges within) \d+", r"\1 N", ran.stdout)
+            printed = re.sub(r"within \d+ ticks?", "within N ticks", re.sub(r"ticks \d+", "ticks N", ran.stdout))
             want, status = report(plan)
-            if (told, ran.returncode) != (want, status):
+            if (printed, ran.returncode) != (want, status):
                 wrong += 1
-                print(f"survive: plan {number} differs:\n{plan.text()}\nit says\n{told}\nand not\n{want}", file=sys.stderr)
-    print(f"{given.plans - wrong} of {given.plans} plans are told alike")
+                print(f"error: plan {number} differs:\n{plan.text()}\nprinted\n{printed}\nexpected\n{want}", file=sys.stderr)
+    print(f"{given.plans - wrong} of {given.plans} plans have the expected report")
     return 1 if wrong else 0
 
 

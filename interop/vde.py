@@ -1,5 +1,5 @@
 #!/usr/bin/env python3
-"""A socket port of `pbnet run` plugged to a VDE switch, a second switch behind that, and a driver at its end."""
+"""Compares pbnet with VDE: a socket port of `pbnet run` is plugged to a VDE switch, and that is joined to a second one."""
 
 import socket
 import subprocess
@@ -10,12 +10,12 @@ from streams import Listener, Peer, exchange
 
 # The most octets of a frame that a VDE switch carries. It cuts longer ones.
 MOST = 1518
-CUT = "a VDE switch cuts a frame after 1,518 octets; here each frame is carried whole"
-ALL = "a VDE switch carries every address; bridges keep this one to themselves"
+CUT = "a VDE switch cuts a frame after 1,518 octets; pbnet carries each frame whole"
+ALL = "a VDE switch carries every address; a bridge does not carry this one"
 
 
 class Switches:
-    """Two VDE switches that are joined."""
+    """Two VDE switches, joined by a link."""
 
     def __init__(self, folder):
         self.folder = folder
@@ -25,7 +25,7 @@ class Switches:
         folder.start("dpipe", "vde_plug", folder.path / "one", "=", "vde_plug", folder.path / "two")
 
     def plug(self, name, stream):
-        """Joins a stream of frames to a switch; the process that does."""
+        """Plugs a stream of frames to a switch, and returns the process of the plug."""
         process = self.folder.start("vde_plug", self.folder.path / name, stdin=stream, stdout=stream)
         stream.close()
         return process
@@ -37,7 +37,7 @@ class Switches:
 
 
 def start_run(folder):
-    """The program between two listeners; both, and the process."""
+    """Starts `pbnet run` between two listeners. Returns the process and both listeners."""
     listeners = [Listener(folder.path / name) for name in ("near.sock", "far.sock")]
     plan = captures.WIRE.format(near=captures.socket_port("near.sock"), far=captures.socket_port("far.sock"))
     (folder.path / "plan.toml").write_text(plan)
@@ -45,7 +45,7 @@ def start_run(folder):
 
 
 def meet(near, far):
-    """Frames until one has passed both switches: they are ready then."""
+    """Sends frames until one passes both switches: they are ready then."""
     for _ in range(100):
         near.send(captures.frame(64))
         if far.receive(0.2) is not None:
@@ -68,7 +68,7 @@ def length_rows(table, near, far):
 
 
 def address_rows(table, near, far, switches):
-    """Some frames through us and both switches, and through the switches alone."""
+    """Sends frames through pbnet and both switches, and through the switches alone."""
     alone = switches.peer("one")
     meet(alone, far)
     rows = [
@@ -79,12 +79,12 @@ def address_rows(table, near, far, switches):
     ]
     for name, to, reason in rows:
         frame = captures.frame(60, to=bytes.fromhex(to), source=b"\2\0\0\0\0\4")
-        told = []
+        results = []
         for peer in (near, alone):
             peer.send(frame)
             came = far.receive(1.5)
-            told.append("passes" if came == frame else "does not pass" if came is None else "is changed")
-        table.row(name, *told, reason)
+            results.append("passes" if came == frame else "does not pass" if came is None else "is changed")
+        table.row(name, *results, reason)
 
 
 def rows(table, folder):
@@ -104,7 +104,7 @@ def rows(table, folder):
 
 def main():
     table = common.Table(
-        f"VDE {common.package_version('vde-switch')}: a port plugged to a switch, and a second one behind it"
+        f"VDE {common.package_version('vde-switch')}: a port and two switches"
     )
     with common.Folder() as folder:
         rows(table, folder)

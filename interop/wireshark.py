@@ -1,5 +1,5 @@
 #!/usr/bin/env python3
-"""What Wireshark's programs make of our captures, tags and BPDUs, and what `pbnet run` makes of captures of theirs."""
+"""Compares pbnet with Wireshark's programs: they read its captures, tags and BPDUs, and it reads their captures."""
 
 import json
 import shutil
@@ -21,7 +21,7 @@ TREE_FIELDS = (
 ).split()
 
 
-# Their programs
+# The programs of Wireshark
 
 
 def tshark(path, *words):
@@ -29,14 +29,14 @@ def tshark(path, *words):
 
 
 def decoded(path, fields):
-    """One list of texts a frame, by fields."""
+    """Returns a list of texts for each frame, by fields."""
     words = [word for name in fields for word in ("-e", name)]
     text = tshark(path, "-T", "fields", "-E", "occurrence=a", *words)
     return [line.split("\t") for line in text.split("\n") if "\t" in line]
 
 
 def raw_frames(path):
-    """The octets of each frame as tshark tells them."""
+    """Returns the octets of each frame as tshark reads them."""
     text = tshark(path, "-T", "jsonraw")
     start = text.index("[")
     packets = json.JSONDecoder().raw_decode(text[start:])[0]
@@ -44,29 +44,29 @@ def raw_frames(path):
 
 
 def info(path):
-    """What capinfos tells: type, encapsulation and number of packets."""
+    """Returns what capinfos prints: type, encapsulation and number of packets."""
     text = common.output("capinfos", "-M", "-t", "-E", "-c", path)
-    told = dict(line.split(":", 1) for line in text.splitlines() if ":" in line)
-    return ", ".join(told.get(key, "?").strip() for key in ("File type", "File encapsulation", "Number of packets"))
+    values = dict(line.split(":", 1) for line in text.splitlines() if ":" in line)
+    return ", ".join(values.get(key, "?").strip() for key in ("File type", "File encapsulation", "Number of packets"))
 
 
 def malformed(path):
-    """How many frames tshark marks as malformed."""
+    """Returns how many frames tshark marks as malformed."""
     numbers = tshark(path, "-Y", "_ws.malformed", "-T", "fields", "-e", "frame.number").split("\n")
     return sum(line.isdigit() for line in numbers)
 
 
-# Ours
+# pbnet
 
 
 def run_wire(folder, near, far):
-    """Runs a bridge with two ports of one service; its report."""
+    """Runs a bridge with two ports of one service. Returns its report."""
     (folder / "plan.toml").write_text(captures.WIRE.format(near=near, far=far))
     return common.run("run", "plan.toml", cwd=folder)
 
 
 def through(folder, read):
-    """The report of a run that carries a capture from one port to another, and the frames that leave."""
+    """Returns the report of a run that carries a capture from one port to another, its status, and the frames that leave."""
     (folder / "none.pcap").write_bytes(captures.pcap([]))
     near, far = captures.capture_port(read, "near.pcap"), captures.capture_port("none.pcap", "far.pcap")
     text, status = run_wire(folder, near, far)
@@ -74,7 +74,7 @@ def through(folder, read):
 
 
 def sent(plan, script):
-    """What `step` sends between bridges, in order: the octets, and whether they are a BPDU's."""
+    """Returns what the ports send in `step`, in order."""
     return [bytes.fromhex(line[5:]) for line in plan_output(plan, script) if line.startswith("sent ")]
 
 
@@ -106,7 +106,7 @@ def example_rows(table, folder):
 
 
 def length_rows(table, folder):
-    """Every length of a frame: written by us and read by tshark, written by editcap and read by us."""
+    """Every length of a frame: written by pbnet and read by tshark, written by editcap and read by pbnet."""
     frames = [captures.frame(length) for length in captures.LENGTHS]
     (folder / "none.pcap").write_bytes(captures.pcap([]))
     far = captures.capture_port("none.pcap", "lengths.pcap")
@@ -125,7 +125,7 @@ def length_rows(table, folder):
 
 
 def digest(frames):
-    """Frames in a few characters."""
+    """Returns a short text of frames."""
     total = sum(sum(frame) * (place + 1) for place, frame in enumerate(frames)) % 999983
     return f"{len(frames)} frames, {sum(map(len, frames))} octets, sum {total}"
 
@@ -172,29 +172,29 @@ def tag_rows(table, folder):
             table.row(f"VID {one[2]}, priority {one[0]}: PCP, DEI, VID, type, data", " ".join(one), " ".join(two))
     table.row("8 priorities in 7 services: those alike", len(want), sum(one == two for one, two in zip(want, got)))
     types = {row[0] for row in decoded(folder / "tags.pcap", ["eth.type", "frame.number"])}
-    table.row("type in front of the tag", "0x88a8", " ".join(sorted(types)))
+    table.row("type of the tag", "0x88a8", " ".join(sorted(types)))
     table.row("malformed marks", 0, malformed(folder / "tags.pcap"))
 
 
 def messages_of(plan, script):
-    """The BPDUs that the second implementation sends, with their sources."""
-    network, told = second_network.Network(read_plan(plan.encode())), []
+    """Returns the BPDUs that the second implementation sends, with their sources."""
+    network, messages = second_network.Network(read_plan(plan.encode())), []
     for bridge in network.bridges.values():
         keep = bridge.octets
 
         def octets(wire, keep=keep, source=bridge.address):
             if isinstance(wire, Message):
-                told.append((wire, source))
+                messages.append((wire, source))
             return keep(wire)
 
         bridge.octets = octets
     for number, line in enumerate(script.rstrip("\n").split("\n"), 1):
         network.answer_line(number, line.encode())
-    return told
+    return messages
 
 
 def identifier(number):
-    """Priority, extension and address of a bridge's identifier, as tshark writes them."""
+    """Returns priority, extension and address of a bridge's identifier, as tshark prints them."""
     address = ":".join(f"{octet:02x}" for octet in number.to_bytes(8, "big")[2:])
     return [str((number >> 48) & 0xF000), str((number >> 48) & 0xFFF), address]
 
@@ -208,12 +208,12 @@ def message_fields(message):
 
 
 def same_number(text):
-    """Texts of one number look alike: tshark writes roles as 0x03 in some versions."""
+    """Returns the texts with hexadecimal numbers in decimal: some versions of tshark print roles as 0x03."""
     return [str(int(cell, 16)) if cell.startswith("0x") else cell for cell in text]
 
 
 def tree_rows(table, folder):
-    """BPDUs of the examples and of plans by chance, field by field."""
+    """BPDUs of the examples and of random plans, field by field."""
     plans = {
         name: ((common.TOP / f"examples/{name}.toml").read_text(), (common.TOP / f"examples/{name}.steps").read_text())
         for name in ("settling", "failover")
@@ -222,23 +222,23 @@ def tree_rows(table, folder):
         chance = random.Random(f"wireshark/{number}")
         plan = generate.plan(chance)
         if plan["network"].get("spanning") == "rstp" and len(plan["link"]) > 2 and "steps" not in plan["network"]:
-            plans[f"by chance {number}"] = generate.toml(plan), generate.script(chance, plan)
+            plans[f"random plan {number}"] = generate.toml(plan), generate.script(chance, plan)
         if len(plans) == 22:
             break
     seen = set()
     count = [0, 0, 0]
     for name, (plan, script) in plans.items():
         frames = [frame for frame in sent(plan, script) if frame[:6] == second_network.PROVIDER]
-        told = messages_of(plan, script)
+        messages = messages_of(plan, script)
         path = folder / "tree.pcap"
         path.write_bytes(captures.pcap(frames))
         rows = [same_number(row) for row in decoded(path, TREE_FIELDS)]
-        want = [same_number(message_fields(message)) for message, _ in told]
+        want = [same_number(message_fields(message)) for message, _ in messages]
         count[0], count[1] = count[0] + len(frames), count[1] + malformed(path)
         count[2] += sum(one != two for one, two in zip(rows, want)) + abs(len(rows) - len(want))
         seen.update((row[5], row[3], row[4], row[6], row[7], row[8]) for row in rows)
         if rows != want:
-            print(name, [(a, b) for a, b in zip(rows, want) if a != b][:2], file=sys.stderr)
+            print(f"error: {name}: {[(a, b) for a, b in zip(rows, want) if a != b][:2]}", file=sys.stderr)
     table.row(
         f"{count[0]} BPDUs of {len(plans)} scripts, {len(TREE_FIELDS)} fields each: those that differ", 0, count[2]
     )
@@ -249,7 +249,7 @@ def tree_rows(table, folder):
 
 
 def other_rows(table, folder):
-    """Captures of other forms: read, skipped or refused, by the fault's number."""
+    """Captures of other forms: read, skipped or refused, by the number of the fault."""
     frames = [captures.frame(length) for length in (60, 100, 61, 1514)]
     (folder / "high.pcap").write_bytes(captures.pcap(frames, order=">"))
     (folder / "low.pcap").write_bytes(captures.pcap(frames))
@@ -271,12 +271,12 @@ def other_rows(table, folder):
         common.output("editcap", "-F", "pcapng", "low.pcap", "other.pcapng", cwd=folder)
         common.output("editcap", *words, source, "form.pcap", cwd=folder)
         text, status, left = through(folder, "form.pcap")
-        told = [line for line in text.split("\n") if line.startswith("fault")] or ["no fault"]
+        faults = [line for line in text.split("\n") if line.startswith("fault")] or ["no fault"]
         want = f"{fault}, exit 3, 0 frames" if fault != "no fault" else f"{fault}, exit 0, {len(frames)} frames"
-        table.row(f"{name}, written by editcap", want, f"{told[0]}, exit {status}, {len(left)} frames")
+        table.row(f"{name}, written by editcap", want, f"{faults[0]}, exit {status}, {len(left)} frames")
 
 
-# Forms of captures that editcap writes, and the fault that is due.
+# Forms of captures that editcap writes, and the expected fault.
 FORMS = [
     ("times in nanoseconds", ["-F", "nsecpcap"], "no fault"),
     ("pcapng", ["-F", "pcapng"], "fault: port near 1"),
