@@ -1,4 +1,4 @@
-# Completions of pbnet for bash. scripts/manual.py made them from the help of pbnet 0.4.0.
+# Completions of pbnet for bash. scripts/manual.py made them from the help of pbnet 0.5.0.
 
 # Sets `options` to the options of the command $1, and `places` to what each of its arguments can be: words, or @file.
 # Sets `repeats` if the last argument can be repeated.
@@ -7,14 +7,14 @@ _pbnet_command()
     case $1 in
         '')
             options='-h --help -V --version'
-            places=('flat check step run control tree survive draw trace show init help')
+            places=('flat check step run control tree survive diff draw trace show init help')
             ;;
         flat)
             options='-h --help'
             places=('')
             ;;
         check)
-            options='--format -h --help'
+            options='--strict --format -h --help'
             places=(@file)
             ;;
         step)
@@ -35,15 +35,19 @@ _pbnet_command()
             places=(@file)
             ;;
         survive)
-            options='--pairs --bridges --own --service --from --format --ticks -h --help'
+            options='--pairs --bridges --own --service --from --accept --strict --print-accept --format --ticks -h --help'
             places=(@file)
+            ;;
+        diff)
+            options='--pairs --bridges --service --format --ticks -h --help'
+            places=('' '')
             ;;
         draw)
             options='--service --down --format -o --output --ticks -h --help'
             places=(@file)
             ;;
         trace)
-            options='--then --format --settle -h --help'
+            options='--then --down --format --settle --ticks -h --help'
             places=(@file '' '')
             ;;
         show)
@@ -55,7 +59,7 @@ _pbnet_command()
             places=()
             ;;
         help)
-            places=('flat check step run control tree survive draw trace show init')
+            places=('flat check step run control tree survive diff draw trace show init')
             ;;
     esac
 }
@@ -75,15 +79,21 @@ _pbnet_option()
         'tree --ticks') follows=('') ;;
         'survive --service') follows=('') ;;
         'survive --from') follows=('') ;;
+        'survive --accept') follows=(@file) ;;
         'survive --format') follows=('text json csv') ;;
         'survive --ticks') follows=('') ;;
+        'diff --service') follows=('') ;;
+        'diff --format') follows=('text json') ;;
+        'diff --ticks') follows=('') ;;
         'draw --service') follows=('') ;;
         'draw --down') follows=('') ;;
         'draw --format') follows=('svg dot') ;;
         'draw -o' | 'draw --output') follows=(@file) ;;
         'draw --ticks') follows=('') ;;
         'trace --then') follows=('' '') ;;
+        'trace --down') follows=('') ;;
         'trace --format') follows=('text json') ;;
+        'trace --ticks') follows=('') ;;
         'init --line') follows=('') ;;
         'init --ring') follows=('') ;;
         'init --star') follows=('') ;;

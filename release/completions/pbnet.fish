@@ -1,4 +1,4 @@
-# Completions of pbnet for fish. scripts/manual.py made them from the help of pbnet 0.4.0.
+# Completions of pbnet for fish. scripts/manual.py made them from the help of pbnet 0.5.0.
 
 complete -c pbnet -f
 complete -c pbnet -n __fish_use_subcommand -s h -l help -d 'Print help'
@@ -10,12 +10,14 @@ complete -c pbnet -n __fish_use_subcommand -a run -d 'Run a network in threads b
 complete -c pbnet -n __fish_use_subcommand -a control -d 'Send commands to a running network by its control socket'
 complete -c pbnet -n __fish_use_subcommand -a tree -d 'Print the spanning tree after convergence'
 complete -c pbnet -n __fish_use_subcommand -a survive -d 'Fail each link in turn and report disconnected sites'
+complete -c pbnet -n __fish_use_subcommand -a diff -d 'Compare two plans and what their networks do under failures'
 complete -c pbnet -n __fish_use_subcommand -a draw -d 'Draw the network as SVG or Graphviz'
 complete -c pbnet -n __fish_use_subcommand -a trace -d 'Trace a frame hop by hop'
 complete -c pbnet -n __fish_use_subcommand -a show -d 'Print how reserved group addresses are handled'
 complete -c pbnet -n __fish_use_subcommand -a init -d 'Print a starter plan'
 complete -c pbnet -n __fish_use_subcommand -a help -d 'Print this message or the help of the given subcommand(s)'
 complete -c pbnet -n '__fish_seen_subcommand_from flat' -s h -l help -d 'Print help'
+complete -c pbnet -n '__fish_seen_subcommand_from check' -l strict -d 'Exit with status 4 if there is a warning'
 complete -c pbnet -n '__fish_seen_subcommand_from check' -l format -x -a 'text json' -d 'Format of the report [default: text]'
 complete -c pbnet -n '__fish_seen_subcommand_from check' -s h -l help -d 'Print help'
 complete -c pbnet -n '__fish_seen_subcommand_from check' -F
@@ -33,9 +35,9 @@ complete -c pbnet -n '__fish_seen_subcommand_from run' -s h -l help -d 'Print he
 complete -c pbnet -n '__fish_seen_subcommand_from run' -F
 complete -c pbnet -n '__fish_seen_subcommand_from control' -s h -l help -d 'Print help'
 complete -c pbnet -n '__fish_seen_subcommand_from control' -F
-complete -c pbnet -n '__fish_seen_subcommand_from tree' -l down -x -d 'Disable port PORT of BRIDGE first; repeat it to disable both ends of a link'
+complete -c pbnet -n '__fish_seen_subcommand_from tree' -l down -x -d 'First disable a link, a bridge with all of its links, or one port BRIDGE:PORT; may be repeated'
 complete -c pbnet -n '__fish_seen_subcommand_from tree' -l format -x -a 'text json' -d 'Format of the report [default: text]'
-complete -c pbnet -n '__fish_seen_subcommand_from tree' -l ticks -x -d 'Wait at most N ticks for convergence [default: 200] [range: 0-100000]'
+complete -c pbnet -n '__fish_seen_subcommand_from tree' -l ticks -x -d 'Wait at most N ticks for convergence [default: 200] [range: 1-1000000]'
 complete -c pbnet -n '__fish_seen_subcommand_from tree' -s h -l help -d 'Print help'
 complete -c pbnet -n '__fish_seen_subcommand_from tree' -F
 complete -c pbnet -n '__fish_seen_subcommand_from survive' -l pairs -d 'Also fail each pair of links'
@@ -43,20 +45,31 @@ complete -c pbnet -n '__fish_seen_subcommand_from survive' -l bridges -d 'Also f
 complete -c pbnet -n '__fish_seen_subcommand_from survive' -l own -d 'Count the customer ports of a failed bridge as disconnected too'
 complete -c pbnet -n '__fish_seen_subcommand_from survive' -l service -x -d 'Analyse only this service'
 complete -c pbnet -n '__fish_seen_subcommand_from survive' -l from -x -d 'Report only failures that disconnect this customer port from others'
+complete -c pbnet -n '__fish_seen_subcommand_from survive' -l accept -r -F -d 'Accept the disconnections that this TOML file lists in [[accept]]'
+complete -c pbnet -n '__fish_seen_subcommand_from survive' -l strict -d 'Exit with status 4 if an acceptance is stale'
+complete -c pbnet -n '__fish_seen_subcommand_from survive' -l print-accept -d 'Print the tables [[accept]] of what was found, and no report'
 complete -c pbnet -n '__fish_seen_subcommand_from survive' -l format -x -a 'text json csv' -d 'Format of the report; csv prints its table alone [default: text]'
 complete -c pbnet -n '__fish_seen_subcommand_from survive' -l ticks -x -d 'Wait at most N ticks for convergence [default: 200] [range: 1-1000000]'
 complete -c pbnet -n '__fish_seen_subcommand_from survive' -s h -l help -d 'Print help'
 complete -c pbnet -n '__fish_seen_subcommand_from survive' -F
+complete -c pbnet -n '__fish_seen_subcommand_from diff' -l pairs -d 'Also fail each pair of links'
+complete -c pbnet -n '__fish_seen_subcommand_from diff' -l bridges -d 'Also fail each bridge, with all of its links'
+complete -c pbnet -n '__fish_seen_subcommand_from diff' -l service -x -d 'Compare the customer ports of only this service'
+complete -c pbnet -n '__fish_seen_subcommand_from diff' -l format -x -a 'text json' -d 'Format of the report [default: text]'
+complete -c pbnet -n '__fish_seen_subcommand_from diff' -l ticks -x -d 'Wait at most N ticks for convergence [default: 200] [range: 1-1000000]'
+complete -c pbnet -n '__fish_seen_subcommand_from diff' -s h -l help -d 'Print help'
 complete -c pbnet -n '__fish_seen_subcommand_from draw' -l service -x -d 'Highlight this service and its tree'
-complete -c pbnet -n '__fish_seen_subcommand_from draw' -l down -x -d 'Disable port PORT of BRIDGE first; repeat it to disable both ends of a link'
+complete -c pbnet -n '__fish_seen_subcommand_from draw' -l down -x -d 'First disable a link, a bridge with all of its links, or one port BRIDGE:PORT; may be repeated'
 complete -c pbnet -n '__fish_seen_subcommand_from draw' -l format -x -a 'svg dot' -d 'Format of the picture; dot is a graph for Graphviz [default: svg]'
 complete -c pbnet -n '__fish_seen_subcommand_from draw' -s o -l output -r -F -d 'Write the picture to this file [default: standard output]'
-complete -c pbnet -n '__fish_seen_subcommand_from draw' -l ticks -x -d 'Wait at most N ticks for convergence [default: 200] [range: 0-100000]'
+complete -c pbnet -n '__fish_seen_subcommand_from draw' -l ticks -x -d 'Wait at most N ticks for convergence [default: 200] [range: 1-1000000]'
 complete -c pbnet -n '__fish_seen_subcommand_from draw' -s h -l help -d 'Print help'
 complete -c pbnet -n '__fish_seen_subcommand_from draw' -F
 complete -c pbnet -n '__fish_seen_subcommand_from trace' -l then -x -d 'Inject another frame once the one before is traced; may be repeated'
+complete -c pbnet -n '__fish_seen_subcommand_from trace' -l down -x -d 'First disable a link, a bridge with all of its links, or one port BRIDGE:PORT; may be repeated'
 complete -c pbnet -n '__fish_seen_subcommand_from trace' -l format -x -a 'text json' -d 'Format of the report [default: text]'
-complete -c pbnet -n '__fish_seen_subcommand_from trace' -l settle -d 'Let the bridges converge first (RSTP), for at most 200 ticks'
+complete -c pbnet -n '__fish_seen_subcommand_from trace' -l settle -d 'Let the bridges converge first (RSTP), for at most N ticks of --ticks'
+complete -c pbnet -n '__fish_seen_subcommand_from trace' -l ticks -x -d 'Wait at most N ticks for convergence [default: 200] [range: 1-1000000]'
 complete -c pbnet -n '__fish_seen_subcommand_from trace' -s h -l help -d 'Print help'
 complete -c pbnet -n '__fish_seen_subcommand_from trace' -F
 complete -c pbnet -n '__fish_seen_subcommand_from show' -s h -l help -d 'Print help'
@@ -64,4 +77,4 @@ complete -c pbnet -n '__fish_seen_subcommand_from init' -l line -x -d 'Connect N
 complete -c pbnet -n '__fish_seen_subcommand_from init' -l ring -x -d 'Connect N bridges in a ring, with RSTP [range: 3-32]'
 complete -c pbnet -n '__fish_seen_subcommand_from init' -l star -x -d 'Connect N bridges in a star, with the first as its centre [range: 2-17]'
 complete -c pbnet -n '__fish_seen_subcommand_from init' -s h -l help -d 'Print help'
-complete -c pbnet -n '__fish_seen_subcommand_from help' -a 'flat check step run control tree survive draw trace show init'
+complete -c pbnet -n '__fish_seen_subcommand_from help' -a 'flat check step run control tree survive diff draw trace show init'
