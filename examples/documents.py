@@ -4,7 +4,7 @@
 usage: examples/documents.py COMMAND REPORT DOCUMENT
        examples/documents.py COMMAND REPORT --write
 
-Reads a report of check, run, step, trace, tree or survive with rules of its own, and compares what it says with a document: JSON,
+Reads a report of check, run, step, trace, tree, survive or diff with rules of its own, and compares what it says with a document: JSON,
 or CSV where the file's name ends in .csv. Prints what differs, with exit status 1. With --write it prints the JSON instead."""
 import csv
 import json
@@ -38,9 +38,10 @@ def groups(text):
 # How a group of an expression is read, by its name; a group of any other name is text.
 READ = {
     **dict.fromkeys(
-        "bridges links services ports rule entered left filtered ab_taken ab_lost ba_taken ba_lost ticks number others events "
+        "bridges links services ports line rule entered left filtered ab_taken ab_lost ba_taken ba_lost ticks number others events "
         "refused lost vid priority cost root_port depth part_nothing failures_tried most_ticks part_a_service form_a_loop "
-        "do_not_converge unhealthy_services checked_links checked_bridges checked_pairs".split(),
+        "do_not_converge are_accepted unhealthy_services checked_links checked_bridges checked_pairs better worse old_most_ticks "
+        "new_most_ticks".split(),
         number,
     ),
     "forest": yes,
@@ -63,13 +64,26 @@ SETTLED_AFTER = r"settled (?P<settled>yes|no) ticks (?P<ticks>\d+)"
 PORT = rf"port (?P<name>{NAME}) entered (?P<entered>\d+) left (?P<left>\d+) filtered (?P<filtered>\d+)"
 LINK = rf"link (?P<name>{NAME}) ab taken (?P<ab_taken>\d+) lost (?P<ab_lost>\d+) ba taken (?P<ba_taken>\d+) lost (?P<ba_lost>\d+)"
 REST = r"(?:(?P<rest>settled|not settled) ticks (?P<ticks>\d+)|states given) forest (?P<forest>yes|no)"
+ONE_DOWN = rf"(?P<down>link|bridge) (?P<name>{NAME})(?: service (?P<service>{NAME}))?"
+TWO_DOWN = rf"(?P<down>links) (?P<name>{NAME}) (?P<other>{NAME})(?: service (?P<service>{NAME}))?"
 
 ENDS = [("plan_fault", PLAN_FAULT, {}), ("", FAULT, {})]
 FORESTS = [("", FOREST, {}), ("loops", LOOP, {})]
-HOP = rf"(?P<indent> *)(?P<bridge>{NAME}) (?P<port_number>\d+) from (?P<from>{NAME}), (?:untagged|(?P<service>[\w -]+) vid (?P<vid>\d+) priority (?P<priority>\d+)(?:, tag (?P<tag_taken_off>[0-9a-f]+) taken off)?)(?:, (?P<source>source \w+(?: \w+)?|table full))?(?:, (?P<way>known|flooded|nowhere))?: "
+HOP = rf"(?P<indent> *)(?P<bridge>{NAME}) (?P<port_number>\d+) from (?P<from>{NAME}), (?:untagged|(?P<service>[\w -]+) vid (?P<vid>\d+) priority (?P<priority>\d+)(?:, tag (?P<tag_taken_off>[0-9a-f]+) removed)?)(?:, (?P<source>source [\w ]+|table full))?(?:, (?P<way>known|flooded|no egress port))?: "
+PART = rf"(?P<part>bridge|link|service|port) (?P<name>{NAME})"
+SERVICE = rf"service (?P<service>{NAME}): "
+# What may have changed with nothing down, and under each failure.
+CHANGES = [
+    ("reach", SERVICE, r"now reach each other:(?P<groups>.*)", {"reach": True}),
+    ("reach", SERVICE, r"no longer reach each other:(?P<groups>.*)", {"reach": False}),
+    ("loops", SERVICE, r"now forms a forwarding loop", {"loop": True}),
+    ("loops", SERVICE, r"no longer forms a forwarding loop", {"loop": False}),
+    ("convergence", "", r"bridges now converge", {"converges": True}),
+    ("convergence", "", r"bridges no longer converge", {"converges": False}),
+]
 # For each command the lines: in which list they stand, how they look, and what they say besides.
 LINES = {
-    "check": [("plan", PLAN, {}), *FORESTS, *ENDS],
+    "check": [("plan", PLAN, {}), *FORESTS, ("warnings", r"warning: file:(?:(?P<line>\d+):)? (?P<message>.*)", {}), *ENDS],
     "run": [
         ("", rf"ended (?P<ended>\w+)", {}), ("ports", PORT, {}), ("links", LINK, {}), *FORESTS, ("", SETTLED, {}),
         ("port_faults", rf"fault: port (?P<port>{NAME}) (?P<fault_number>\d+)", {}), *ENDS,
@@ -84,8 +98,9 @@ LINES = {
     ],
     "survive": [
         ("nothing_down", rf"nothing down: {REST}", {}),
-        ("failures", rf"(?P<down>link|bridge) (?P<name>{NAME}) down: {REST}", {}),
-        ("failures", rf"(?P<down>links) (?P<name>{NAME}) (?P<other>{NAME}) down: {REST}", {}),
+        *[("failures", rf"{lead}{what} down: {REST}", besides)
+            for lead, besides in (("", {}), ("accepted ", {"accepted": True}))
+            for what in (rf"(?P<down>link|bridge) (?P<name>{NAME})", rf"(?P<down>links) (?P<name>{NAME}) (?P<other>{NAME})")],
         ("loops", rf"  loop (?P<service>{NAME})", {}),
         ("services", rf"  service (?P<name>{NAME}):(?P<groups>.*)", {}),
         ("cut_off", rf"  (?P<port>{NAME}) cut off from:(?P<from_ports>.*)", {}),
@@ -94,45 +109,62 @@ LINES = {
         ("unhealthy", rf"service (?P<service>{NAME}) has fewer than two ports", {"fault": "too few ports"}),
         ("unhealthy", r"bridges do not converge", {"fault": "not converged"}),
         ("", r"healthy with nothing down", {"healthy": True}),
-        ("", r"not healthy with nothing down: (?:no service|(?P<unhealthy_services>\d+) services)(?:, bridges do not converge)?",
+        ("", r"not healthy with nothing down: (?:no service|(?P<unhealthy_services>\d+) services?)(?:, bridges do not converge)?",
             {"healthy": False, "survives": False}),
-        ("", r"checked (?P<checked_links>\d+) links(?:, (?P<checked_bridges>\d+) bridges)?(?:, (?P<checked_pairs>\d+) pairs)?", {}),
+        ("", r"checked (?P<checked_links>\d+) links?(?:, (?P<checked_bridges>\d+) bridges?)?(?:, (?P<checked_pairs>\d+) pairs?)?", {}),
         ("", r"(?P<part_nothing>\d+) of (?P<failures_tried>\d+) failures disconnect nothing", {}),
-        ("", r"converges within (?P<most_ticks>\d+) ticks", {}),
+        ("", r"converges within (?P<most_ticks>\d+) ticks?", {}),
+        ("", r"(?P<are_accepted>\d+) of (?P<failures_tried>\d+) failures are accepted", {}),
         ("", r"(?P<part_a_service>\d+) of (?P<failures_tried>\d+) failures disconnect a service", {"survives": False}),
         ("", r"(?P<form_a_loop>\d+) of (?P<failures_tried>\d+) failures form a forwarding loop", {"survives": False}),
         ("", r"(?P<do_not_converge>\d+) of (?P<failures_tried>\d+) failures do not converge", {"survives": False}),
-        ("", r"survives every single failure", {"survives": True}),
+        ("acceptances", r"(?P<state>stale|untried) acceptance: (?P<accepts>.*)", {}),
+        ("", r"survives every (?:single failure|failure that is not accepted)", {"survives": True}),
         ("no_such", rf"no such service (?P<service>.*)", {}), ("no_such", rf"no such port (?P<port>.*)", {}), *ENDS,
+    ],
+    "diff": [
+        *[(home, rf"{lead}nothing down: {words}", {"down": "nothing", **besides}) for home, lead, words, besides in CHANGES],
+        *[(home, rf"{lead}(?P<down>link|bridge) (?P<name>{NAME}) down: {words}", besides) for home, lead, words, besides in CHANGES],
+        *[(home, rf"{lead}(?P<down>links) (?P<name>{NAME}) (?P<other>{NAME}) down: {words}", besides) for home, lead, words, besides in CHANGES],
+        ("ends", rf"link (?P<link>{NAME}) with nothing down: a (?P<old_a>[\w ]+), b (?P<old_b>[\w ]+) -> a (?P<new_a>[\w ]+), b (?P<new_b>[\w ]+)", {}),
+        ("parts", rf"{PART}: (?P<change>added|removed)", {}),
+        ("fields", rf"{PART}: (?P<key>\w+): (?P<old>.*) -> (?P<new>.*)", {}),
+        ("network", r"network: (?P<key>\w+): (?P<old>.*) -> (?P<new>.*)", {}),
+        ("", r"most ticks to convergence: (?:none|(?P<old_most_ticks>\d+)) -> (?:none|(?P<new_most_ticks>\d+))", {}),
+        ("", r"better: (?P<better>\d+) of (?P<failures_tried>\d+) failures; worse: (?P<worse>\d+) of \d+ failures; with nothing down: (?P<nothing_down>.*)", {}),
+        ("", r"no difference", {"differs": False}),
+        ("no_such", rf"no such service (?P<service>.*)", {}), *ENDS,
     ],
     "trace": [
         ("", SETTLED_AFTER, {}),
         ("frames", rf"in (?P<frame>[0-9a-f]+): polled (?P<port>{NAME}) (?P<number>\d+)", {}),
         ("hops", HOP + r"relayed(?P<relayed_to>(?: \d+)*)(?P<no_room>(?: (?:full|memory) \d+)*)", {"event": "received", "outcome": "relayed"}),
         ("hops", HOP + r"filtered (?P<reason>.*)", {"event": "received", "outcome": "filtered"}),
-        ("hops", rf"(?P<indent> *)(?P<bridge>{NAME}) (?P<port_number>\d+) to (?P<to>{NAME})(?:, tag (?P<tag>taken off|[0-9a-f]+(?P<put_on> put on)?))?", {"event": "sent"}),
+        ("hops", rf"(?P<indent> *)(?P<bridge>{NAME}) (?P<port_number>\d+) to (?P<to>{NAME})(?:, tag (?P<tag>removed|[0-9a-f]+(?P<put_on> added)?))?", {"event": "sent"}),
         ("hops", rf"(?P<indent> *)(?P<link>{NAME}) (?P<direction>ab|ba): (?P<event>taken|lost) (?P<number>\d+)", {}),
         ("hops", rf"(?P<indent> *)(?P<port>{NAME}): delivered (?P<frame>[0-9a-f]+)", {"event": "delivered"}),
-        ("", r"others (?P<others>\d+)", {}),
-        ("", r"goes round over(?P<goes_round_over>.*); ended after (?P<events>\d+) events", {}),
-        ("", r"left (?:at(?P<left_at>.*)|nowhere); refused (?P<refused>\d+); lost (?P<lost>\d+)", {}), *ENDS,
+        ("", r"other events (?P<others>\d+)", {}),
+        ("", r"loops over(?P<goes_round_over>.*); ended after (?P<events>\d+) events", {}),
+        ("", r"(?:delivered at(?P<left_at>.*)|not delivered); refused (?P<refused>\d+); lost (?P<lost>\d+)", {}), *ENDS,
     ],
 }
 # The lists of each document, and how their lines stand there.
 LISTS = {
-    "check": {"plan": "one", "loops": "values", "plan_fault": "one"},
+    "check": {"plan": "one", "loops": "values", "warnings": "objects", "plan_fault": "one"},
     "run": {"ports": "objects", "links": "objects", "loops": "values", "port_faults": "objects", "plan_fault": "one"},
     "step": {"answers": "values", "ports": "objects", "links": "objects", "loops": "values", "plan_fault": "one"},
     "trace": {"frames": "objects", "plan_fault": "one"},
     "tree": {"bridges": "objects", "loops": "values", "branches": "objects", "plan_fault": "one"},
-    "survive": {"nothing_down": "one", "failures": "objects", "no_such": "one", "plan_fault": "one"},
+    "survive": {"nothing_down": "one", "failures": "objects", "acceptances": "objects", "no_such": "one", "plan_fault": "one"},
+    "diff": {"parts": "objects", "fields": "objects", "network": "objects", "reach": "objects", "loops": "objects",
+             "ends": "objects", "convergence": "objects", "no_such": "one", "plan_fault": "one"},
 }
 INNER = {
     "trace": {"frames": ["hops"]},
     "tree": {"bridges": ["ports"]},
     "survive": {"nothing_down": ["loops", "services", "unhealthy"], "failures": ["loops", "services", "cut_off"]},
 }
-SOURCES = {"source a group": "group", "table full": "table full"}
+SOURCES = {"source is a group address": "group", "table full": "table full"}
 
 
 def said(match, besides):
@@ -145,10 +177,10 @@ def said(match, besides):
     if "source" in row:
         row["source"] = SOURCES.get(row["source"], row["source"].removeprefix("source "))
     if row.pop("put_on", None):
-        row |= {"tag": row["tag"].removesuffix(" put on"), "put_on": True}
+        row |= {"tag": row["tag"].removesuffix(" added"), "put_on": True}
     if match.re.pattern.startswith(HOP) and "vid" not in row:
         row["untagged"] = True
-    if match.string.startswith("left nowhere"):
+    if match.string.startswith("not delivered"):
         row["left_at"] = []
     return row | besides
 
@@ -192,7 +224,7 @@ def table_of(command, text):
 
     document = document_of(command, text)
     if command == "survive":
-        titles = ["down", "name", "other", "settled", "ticks", "forest"]
+        titles = ["down", "name", "other", "settled", "ticks", "forest", "accepted"]
         return [titles] + [[cell(row.get(key, "")) for key in titles] for row in document["failures"]]
     table = [["kind", "name", "direction", "entered", "left", "filtered", "taken", "lost"]]
     for it in document["ports"]:

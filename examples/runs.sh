@@ -67,10 +67,54 @@ unicast=02000000010102000000020208004344
 tagged=ffffffffffff02000000010188a8006408004142
 metro=ffffffffffff02000000010108000001
 status=4 prints access.expected survive examples/access.toml
+prints accept.expected survive examples/accept.toml --strict
+begin "ci.sh"
+PBNET=$program sh examples/ci.sh examples/failover.toml examples/accept.toml >out/ci.report || wrong "a healthy plan fails"
+says out/ci.report ""
+if PBNET=$program sh examples/ci.sh examples/failover.toml examples/metro.toml >out/ci.report; then
+    wrong "a plan with warnings passes"
+fi
+prints diff.expected diff examples/access.toml examples/access-video.toml
+status=4 prints diff-worse.expected diff examples/access-video.toml examples/access.toml
 prints tree.expected tree examples/failover.toml
 prints trace.expected trace examples/two-bridges.toml C1 "$broadcast" --then C2 "$unicast"
 prints trace-metro.expected trace examples/metro.toml provider "$metro"
+prints trace-down.expected trace examples/failover.toml C1 "$broadcast" --down L1 --settle
 prints trace-losses.expected trace examples/losses.toml sender "$broadcast" --then sender "$broadcast"
+
+# A link that fails fails at both ends, and a bridge with its links.
+both() {
+    local want=$1
+    shift
+    begin "--down $1 of $want"
+    runs out/both.all tree "examples/$want.toml" --down "$1"
+    ended 0
+    shift
+    runs out/both.ends tree "examples/$want.toml" "$@"
+    ended 0
+    same out/both.all out/both.ends
+}
+both failover L1 --down B1:1 --down B2:1
+both failover B2 --down L1 --down L2
+both metro Harbour --down ring1 --down ring2
+
+# A name that the plan lacks is refused by each command with `--down`, in each format.
+lacks() {
+    local want=$1
+    shift
+    begin "$*"
+    runs out/lacks "$@"
+    ended 2
+    same out/lacks /dev/null
+    says out/errors "$want"
+}
+for it in "tree examples/metro.toml" "tree --format json examples/metro.toml" "draw examples/metro.toml" \
+    "trace examples/metro.toml provider $metro" "trace --format json examples/metro.toml provider $metro"; do
+    # shellcheck disable=SC2086
+    lacks 'error: no link, bridge or port named "rng1"; did you mean "ring1"?' $it --down rng1
+    # shellcheck disable=SC2086
+    lacks 'error: no link, bridge or port named "moon"' $it --down ring1 --down moon
+done
 
 # The plans of docs/TROUBLESHOOTING.md. That page shows the last lines of two traces.
 prints broken/ring-check.expected check examples/broken/ring.toml
@@ -104,12 +148,35 @@ documents() {
     [ ! -f "examples/$document" ] || same "out/$document" "examples/$document"
     agrees "$command" "examples/$report" "out/$document"
 }
+
+# Compares the report, the warnings and the document of `check --strict` for a plan with warnings with those of examples/.
+warns() {
+    local it=$1
+    begin "$it.errors"
+    runs "out/$it.expected" check --strict "examples/$it.toml"
+    ended 4
+    same "out/$it.expected" "examples/$it.expected"
+    same out/errors "examples/$it.errors"
+    runs "out/$it.json" check --strict --format json "examples/$it.toml"
+    ended 4
+    same out/errors "examples/$it.errors"
+    same "out/$it.json" "examples/$it.json"
+    sed 's/^warning: [^:]*:/warning: file:/' "examples/$it.errors" | cat "examples/$it.expected" - >"out/$it.report"
+    agrees check "out/$it.report" "out/$it.json"
+}
 documents plan-file.expected plan-file.json check examples/plan-file.toml
+warns broken/warnings
+begin "a plan without warnings"
+runs out/strict check --strict examples/metro.toml
+ended 0
+[ ! -s out/errors ] || wrong "there are warnings"
 documents broken/ring-check.expected broken/ring-check.json check examples/broken/ring.toml
 status=4 documents access.expected access.json survive examples/access.toml
 status=4 documents access.expected access.csv survive examples/access.toml
 status=4 documents broken/trunk-survive.expected broken/trunk-survive.json \
     survive examples/broken/trunk.toml --service blue
+documents diff.expected diff.json diff examples/access.toml examples/access-video.toml
+status=4 documents diff-worse.expected diff-worse.json diff examples/access-video.toml examples/access.toml
 documents tree.expected tree.json tree examples/failover.toml
 documents broken/open-tree.expected broken/open-tree.json tree examples/broken/open.toml
 documents trace.expected trace.json trace examples/two-bridges.toml C1 "$broadcast" --then C2 "$unicast"
