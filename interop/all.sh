@@ -1,6 +1,6 @@
 #!/usr/bin/env bash
-# Compares pbnet with other programs. Installs the Debian packages that this needs, and runs each part. The exit status is 0
-# if each row of each table is alike or a listed difference.
+# Compares pbnet with other programs. Installs the Debian packages that the parts need, and runs each part. The exit status
+# is 0 if each row of each table is alike or a listed difference.
 #
 #     interop/all.sh [PART..]     all parts, or these: differences survive diff wireshark openvswitch rings vde speed
 #                                 linux
@@ -9,8 +9,6 @@
 set -eu
 cd -- "$(dirname -- "$0")/.."
 
-packages=(python3 tshark wireshark-common openvswitch-switch openvswitch-common vde-switch vdeplug gcc libc6-dev
-    qemu-system-x86 busybox-static iproute2 cpio)
 all=(differences survive diff wireshark openvswitch rings vde speed linux)
 parts=("$@")
 [ "${#parts[@]}" -gt 0 ] || parts=("${all[@]}")
@@ -28,10 +26,21 @@ for part in "${parts[@]}"; do
     esac
 done
 
-# Prints the packages that are not installed.
+# Prints the packages that a part needs.
+packages_of() {
+    echo python3
+    case $1 in
+        wireshark) echo tshark wireshark-common ;;
+        openvswitch | rings) echo openvswitch-switch openvswitch-common ;;
+        vde | speed) echo vde-switch vdeplug gcc libc6-dev ;;
+        linux) echo gcc libc6-dev qemu-system-x86 busybox-static iproute2 cpio ;;
+    esac
+}
+
+# Prints the packages of the parts that are not installed, each once.
 missing() {
     local name
-    for name in "${packages[@]}"; do
+    for name in $(for part in "${parts[@]}"; do packages_of "$part"; done | tr ' ' '\n' | sort -u); do
         dpkg-query -W -f '${Status}' "$name" 2>/dev/null | grep -q 'install ok installed' || echo "$name"
     done
 }
