@@ -21,8 +21,8 @@ from second_plan import read_plan
 from second_tree import FORWARDING
 
 STATES = ["discarding", "learning", "forwarding"]
-DEFAULTS = {"spanning": "fixed", "prompt": "false", "ageing": "300", "ring": "64", "steps": str(2**64 - 1)}
-MOST_ROUNDS = 200
+KEYS = ("spanning", "prompt", "queues", "ageing", "ring", "steps")
+MOST_ROUNDS, STANDING = 200, 60
 
 
 class Draft:
@@ -33,6 +33,8 @@ class Draft:
         self.network = {"spanning": dice.choice(["fixed", "rstp"])}
         if self.network["spanning"] == "rstp" and dice.random() < 0.7:
             self.network["prompt"] = True
+        if dice.random() < 0.4:
+            self.network["queues"] = dice.choice(["port", "class"])
         self.bridge, self.link, self.service, self.port = [], [], [], []
         self.named = itertools.count(1)
         for _ in range(dice.randint(2, 6)):
@@ -139,6 +141,9 @@ class Draft:
             else:
                 self.alter_services(row)
 
+    def alter_queues(self):
+        self.network["queues"] = self.dice.choice(["port", "class"])
+
     def alter_port(self):
         if self.port:
             self.dice.choice(self.port)["service"] = self.dice.choice(self.service)["name"]
@@ -146,7 +151,7 @@ class Draft:
     def change(self):
         changes = [self.add_link, self.add_link, self.alter_link, self.alter_link, self.add_port, self.add_bridge]
         changes += [self.move_port, self.alter_port, self.rename_bridge, self.remove_bridge, self.remove_service]
-        changes += [self.add_service, lambda: self.remove(self.link), lambda: self.remove(self.port)]
+        changes += [self.add_service, lambda: self.remove(self.link), lambda: self.remove(self.port), self.alter_queues]
         self.dice.choice(changes)()
 
     def changed(self):
@@ -205,8 +210,8 @@ def fields(kind, row, plan, names):
 
 def network_fields(plan):
     spanning = "rstp" if plan.rstp else "fixed"
-    values = [spanning, "true" if plan.prompt else "false", plan.ageing, plan.ring, plan.steps]
-    return dict(zip(DEFAULTS, values))
+    prompt, queues = "true" if plan.prompt else "false", "class" if plan.by_class else "port"
+    return dict(zip(KEYS, [spanning, prompt, queues, plan.ageing, plan.ring, plan.steps]))
 
 
 def parts(plan, names):
@@ -237,19 +242,29 @@ def part_lines(old, new):
 
 
 class Driven:
-    """A plan's network under a failure, which is the set of names that fail: (kind, name)."""
+    """A plan's network with nothing down, or under a failure, which is the set of names that fail: (kind, name)."""
 
-    def __init__(self, plan, failure):
-        self.plan = plan
-        self.net = Network(plan)
-        self.settled = self.settle()
-        hit = [link for link in plan.links if self.is_hit(link, failure)]
-        for link in hit:
-            for end in (link["end_a"], link["end_b"]):
-                self.net.by_number[end.bridge].admin(end.port, False)
-        if hit or failure:
-            self.settled = self.settle()
+    def __init__(self, plan, net, failure=frozenset()):
+        self.plan, self.net = plan, net
+        self.settled = self.settle() if not failure else None
         self.out = {name for kind, name in failure if kind == "bridge"}
+        for link in plan.links:
+            if self.is_hit(link, failure):
+                for end in (link["end_a"], link["end_b"]):
+                    net.by_number[end.bridge].admin(end.port, False)
+        if failure:
+            self.settled = self.settle()
+
+    def after(self, failure):
+        """The network that was up for 60 ticks, under a failure."""
+        if not failure:
+            return self
+        if not hasattr(self, "stood"):
+            self.stood = Driven.__new__(Driven)
+            self.stood.plan, self.stood.net = self.plan, copy.deepcopy(self.net)
+            for _ in range(STANDING if self.plan.rstp else 0):
+                self.stood.round()
+        return Driven(self.plan, copy.deepcopy(self.stood.net), failure)
 
     def is_hit(self, link, failure):
         return ("link", link["name"]) in failure or any(("bridge", link[side]) in failure for side in "ab")
@@ -259,22 +274,24 @@ class Driven:
         if not self.plan.rstp:
             return True
         before = False
-        for _ in range(MOST_ROUNDS):
-            for bridge in self.net.by_number:
-                bridge.tick()
-            self.drain()
+        for ticks in range(MOST_ROUNDS):
+            self.round()
             now = self.net.are_settled()
             if before and now:
+                self.ticks = ticks + 1
                 return True
             before = now
         return False
 
-    def drain(self):
+    def round(self):
+        """Each bridge ticks, and all that is due then is done."""
+        for bridge in self.net.by_number:
+            bridge.tick()
         moved = True
         while moved:
             moved = False
             for bridge in self.net.by_number:
-                for number in bridge.ports:
+                for number in sorted(bridge.ports):
                     moved |= bridge.receive(number) != "idle"
                     moved |= bridge.transmit(number) != "idle"
             for lane in self.net.lanes.values():
@@ -358,10 +375,10 @@ def report(old, new, bridges, pairs, service):
     cases = [(old, f) for f in failures(old, bridges, pairs)]
     cases += [(new, f) for f in failures(new, bridges, pairs) if not all(has(old, part) for part in f)]
     cases = [(old, frozenset())] + cases
-    driven = []
+    calms, driven = [Driven(plan, Network(plan)) for plan in (old, new)], []
     for plan, failure in cases:
         text = failure_text(plan, failure)
-        both = [Driven(p, frozenset(part for part in failure if has(p, part))) for p in (old, new)]
+        both = [calm.after(frozenset(part for part in failure if has(calm.plan, part))) for calm in calms]
         driven.append((text, both))
     here = {row["name"] for row in new.services}
     services = [s["name"] for s in old.services if s["name"] in here and service in (None, s["name"])]

@@ -41,6 +41,7 @@ def network_table(chance):
     sometimes(chance, 0.1, table, "tick_every", lambda: chance.choice([0, 7]))
     sometimes(chance, 0.05, table, "tick_ms", lambda: chance.choice([0, 5, 60000]))
     sometimes(chance, 0.03, table, "hold", lambda: chance.choice([0, 1, 1000000]))
+    sometimes(chance, 0.7, table, "queues", lambda: chance.choice(["port", "class", "class"]))
     sometimes(chance, 0.6 if table.get("spanning") == "rstp" else 0.02, table, "prompt", lambda: chance.random() < 0.7)
     return table
 
@@ -291,6 +292,13 @@ def settle_down(chance, network):
         yield chance.choice(lines)
 
 
+def flood(chance, network):
+    """Yields frames that enter at one customer port, for queues that get full."""
+    row = chance.choice(list(network.customers.values())).row
+    for _ in range(chance.randint(2, 8)):
+        yield from (f"poll {row['name']} {frame(chance)}", f"feed {row['name']}", f"receive {row['bridge']} {row['port']}")
+
+
 def burst(chance, network):
     """Yields a few lines that belong together."""
     roll = chance.random()
@@ -308,6 +316,8 @@ def burst(chance, network):
         yield any_event(chance, network)
     elif roll < 0.77:
         yield from settle_down(chance, network)
+    elif roll < 0.82 and network.customers:
+        yield from flood(chance, network)
     else:
         for _ in range(chance.randint(1, 12)):
             yield chance.choice(enabled(network) or ["hop"])

@@ -5,7 +5,7 @@ usage: interop/rings.py [--trials N] [--seconds N] [rings] [flood]
 
 Two customers at opposite bridges of a ring send each other a frame every 5 ms. The first link of their path, at the
 root, is disabled at both ends. All rings run side by side, with one trial at a time. RINGS_PLAIN=1 omits the key
-`prompt` from every plan, for a program that lacks it.
+`prompt` from every plan, for a program that lacks it. The flood is run with both values of the key `queues`.
 """
 
 import argparse
@@ -34,15 +34,16 @@ PROMPT, PLAIN, OTHER = "`prompt` left out" if WITHOUT_KEY else "`prompt = true`"
 ROLES = ("Root", "Designated", "Alternate", "Backup", "Disabled")
 
 
-def plan(size, customers, prompt):
-    """Returns the plan of a ring: port 1 of each bridge leads to port 2 of the next. Customers are (name, bridge number)."""
+def plan(size, customers, prompt, more="", queue=64):
+    """Returns the plan of a ring: port 1 of each bridge leads to port 2 of the next. Customers are (name, bridge number,
+    priority)."""
     text = '[[service]]\nname = "s"\nvid = 100\n[network]\nspanning = "rstp"\ntick_ms = 1000\n'
-    text += "" if WITHOUT_KEY else f"prompt = {str(prompt).lower()}\n"
+    text += more + ("" if WITHOUT_KEY else f"prompt = {str(prompt).lower()}\n")
     for n in range(1, size + 1):
-        text += f'[[bridge]]\nname = "B{n}"\naddress = "02-00-00-00-00-{n:02x}"\nqueue = 64\n'
+        text += f'[[bridge]]\nname = "B{n}"\naddress = "02-00-00-00-00-{n:02x}"\nqueue = {queue}\n'
         text += f'[[link]]\nname = "L{n}"\na = "B{n}"\na_port = 1\nb = "B{n % size + 1}"\nb_port = 2\n'
-    for place, (name, n) in enumerate(customers):
-        text += f'[[port]]\nname = "{name}"\nbridge = "B{n}"\nport = {3 + place}\nservice = "s"\n'
+    for place, (name, n, *pcp) in enumerate(customers):
+        text += f'[[port]]\nname = "{name}"\nbridge = "B{n}"\nport = {3 + place}\nservice = "s"\npcp = {[*pcp, 0][0]}\n'
         text += f'kind = "socket"\nlisten = "{name}.sock"\n'
     return text
 
@@ -50,16 +51,16 @@ def plan(size, customers, prompt):
 class Ours:
     """A ring of `pbnet run` with its control socket."""
 
-    def __init__(self, stack, size, prompt, customers=None):
+    def __init__(self, stack, size, prompt, customers=None, more="", queue=64):
         folder = stack.enter_context(common.Folder())
         customers = customers or [("near", 1), ("far", size // 2 + 1)]
         path = folder.path / "plan.toml"
-        path.write_text(plan(size, customers, prompt))
+        path.write_text(plan(size, customers, prompt, more, queue))
         checked = common.run("check", path)
         assert checked[1] != 1, f"{common.PROGRAM} refuses the plan: {checked[0]}"
         self.process = folder.start(common.PROGRAM, "run", "--control", "control", path, stdout=-1, stderr=-1)
         common.wait_for(folder.path / f"{customers[-1][0]}.sock")
-        self.peers = [Peer.to(folder.path / f"{name}.sock") for name, _ in customers]
+        self.peers = [Peer.to(folder.path / f"{name}.sock") for name, *_ in customers]
         # A signal ends the run only after the control socket's client has disconnected.
         self.control = stack.enter_context(Peer.to(folder.path / "control").stream)
         self.responses = stack.enter_context(self.control.makefile("r", encoding="ascii"))
@@ -263,21 +264,75 @@ def flood_from(stream, octet, is_over):
             stream.sendall(burst)
 
 
-def flood_row(seconds, bridges):
-    """Prints the changes before and in the flood, BPDUs not queued, frames that entered, and copies not queued."""
+@contextlib.contextmanager
+def flood(peers):
+    """Has these customers send broadcasts as fast as their bridges take them, and take what comes."""
+    is_over = threading.Event()
+    for octet, peer in enumerate(peers):
+        threading.Thread(target=discard_from, args=(peer.stream,), daemon=True).start()
+        threading.Thread(target=flood_from, args=(peer.stream, octet, is_over), daemon=True).start()
+    yield
+    is_over.set()
+
+
+def lost(ring, kind):
+    """Stops the ring, and returns how many BPDUs or copies were not queued."""
+    return sum(map(int, re.findall(rf"(\d+) {kind} not queued", ring.stop())))
+
+
+def flood_row(seconds, bridges, queue, queues):
+    """Prints the changes before and in the flood, BPDUs not queued, and frames that entered."""
     with contextlib.ExitStack() as stack:
-        ring = Ours(stack, 4, True, [(f"c{place}", name[1:]) for place, name in enumerate(bridges.split(", "))])
+        customers = [(f"c{place}", name[1:]) for place, name in enumerate(bridges.split(", "))]
+        ring = Ours(stack, 4, True, customers, f'queues = "{queues}"\n', queue)
         time.sleep(10)
-        calm, is_over = changes(ring, seconds), threading.Event()
-        for octet, peer in enumerate(ring.peers):
-            threading.Thread(target=discard_from, args=(peer.stream,), daemon=True).start()
-            threading.Thread(target=flood_from, args=(peer.stream, octet, is_over), daemon=True).start()
-        busy = changes(ring, seconds)
-        is_over.set()
+        calm = changes(ring, seconds)
+        with flood(ring.peers):
+            busy = changes(ring, seconds)
         entered = sum(int(line.split()[3]) for line in ring.ask("counts") if line.startswith("port"))
-        losses = ring.stop()
-    bpdus, copies = (sum(map(int, re.findall(rf"(\d+) {kind} not queued", losses))) for kind in ("BPDUs", "copies"))
-    print(f"| {bridges} | {calm} | {busy} | {bpdus} | {entered:,} | {copies:,} |", flush=True)
+        bpdus = lost(ring, "BPDUs")
+    print(f"| {bridges} | {queue} | `\"{queues}\"` | {calm} | {busy} | {bpdus} | {entered:,} |", flush=True)
+
+
+def priority_row(queue, queues, count=1000):
+    """Prints how many frames of priority 7 arrive, sent 5 ms apart beside two floods of priority 0 on the same way."""
+    with contextlib.ExitStack() as stack:
+        customers = [("flood1", 1), ("flood2", 1), ("far", 3), ("urgent", 1, 7)]
+        ring = Ours(stack, 4, True, customers, f'queues = "{queues}"\n', queue)
+        *floods, far, urgent = ring.peers
+        time.sleep(10)
+        came, mark = [], b"\2\0\0\0\7\7\x88\xb6"
+
+        def take():
+            while len(came) < count and (frame := far.receive(10)) is not None:
+                came.extend([frame] if frame[6:14] == mark else [])
+
+        receiver = threading.Thread(target=take)
+        receiver.start()
+        threading.Thread(target=discard_from, args=(urgent.stream,), daemon=True).start()
+        with flood(floods):
+            time.sleep(1)
+            for _ in range(count):
+                urgent.send(b"\xff" * 6 + mark + bytes(50))
+                time.sleep(PERIOD)
+            time.sleep(1)
+        receiver.join()
+        ring.stop()
+    print(f"| {queue} | `\"{queues}\"` | {len(came):,} of {count:,} |", flush=True)
+
+
+def floods(seconds):
+    print(f"Three customers flood a ring of four for {seconds} seconds, {PROMPT}.\n")
+    print("| Customers at | `queue` | `queues` | Changes before | During the flood | BPDUs lost | Frames entered |")
+    print("|---|---:|---" + "|---:" * 4 + "|")
+    for bridges in ("B1, B2, B3", "B1, B1, B1"):
+        for queue, queues in ((64, "port"), (1024, "port"), (64, "class")):
+            flood_row(seconds, bridges, queue, queues)
+    print("\nFrames of priority 7 beside a flood of priority 0.\n")
+    print("| `queue` | `queues` | Frames that arrive |\n|---:|---|---:|")
+    for queues in ("port", "class"):
+        priority_row(64, queues)
+    print()
 
 
 def main():
@@ -291,12 +346,7 @@ def main():
         if part not in ("rings", "flood"):
             parser.error(f"unknown part '{part}'")
     if "flood" in given.parts:
-        print(f"Three customers flood a ring of four with queues of 64 for {given.seconds} seconds, {PROMPT}.\n")
-        print("| Customers at | Changes before | During the flood | BPDUs lost | Frames entered | Copies lost |")
-        print("|---" + "|---:" * 5 + "|")
-        for bridges in ("B1, B2, B3", "B1, B1, B1"):
-            flood_row(given.seconds, bridges)
-        print()
+        floods(given.seconds)
     common.finish(*([ring_rows(given.trials)] if "rings" in given.parts else []))
 
 

@@ -20,6 +20,9 @@ FLAT_STEPS = 1000000
 # The traffic class of each priority for eight classes (IEEE 802.1Q): that of 1 is below that of 0.
 CLASSES = (1, 0, 2, 3, 4, 5, 6, 7)
 
+# The class of a bridge's own BPDUs if they have a place of their own, above all traffic classes.
+OWN = 8
+
 
 class EndsEarly(Exception):
     """A line `fault:` ends the command."""
@@ -109,6 +112,7 @@ class Bridge(Place):
     def __init__(self, plan, row):
         super().__init__(plan.steps)
         self.row, self.ring, self.tree, self.prompt = row, plan.ring, None, plan.prompt
+        self.by_class = plan.by_class
         self.address = bytes.fromhex(row["address"].replace("-", ""))
         self.stations = Stations(plan.ageing)
         self.ports = {}
@@ -160,12 +164,17 @@ class Bridge(Place):
             known = self.stations.find(vid, frame[:6])
             if known is not None:
                 chosen = [n for n in chosen if n == known]
-        full = [n for n in chosen if len(self.ports[n].queue) >= self.row["queue"]]
+        full = [n for n in chosen if self.is_full(n, CLASSES[priority])]
         put = [n for n in chosen if n not in full]
         for n in put:
             wire = frame if self.ports[n].customer is not None else with_tag(frame, priority, vid)
             self.ports[n].queue.append((CLASSES[priority], wire))
         return " ".join(["relayed", *map(str, put)] + [f"full {n}" for n in full])
+
+    def is_full(self, number, traffic_class):
+        waiting = [one for one, _ in self.ports[number].queue]
+        counted = waiting.count(traffic_class) if self.by_class else len(waiting)
+        return counted >= self.row["queue"]
 
     def transmit(self, number):
         port = self.ports[number]
@@ -204,8 +213,15 @@ class Bridge(Place):
             self.ports[number].state = state
         self.stations.flush(change.flushed)
         for number, message in change.messages:
-            if len(self.ports[number].queue) < self.row["queue"]:
-                self.ports[number].queue.append((7, message))
+            self.send(number, message)
+
+    def send(self, number, message):
+        """Queues an own BPDU: in class 7 if there is room, or in a place of its own, from which it pushes an older one."""
+        port = self.ports[number]
+        if self.by_class:
+            port.queue = [waiting for waiting in port.queue if waiting[0] != OWN] + [(OWN, message)]
+        elif not self.is_full(number, 7):
+            port.queue.append((7, message))
 
 
 class Lane(Place):

@@ -35,6 +35,7 @@ class End:
 class Plan:
     rstp: bool = False
     prompt: bool = False
+    by_class: bool = False
     ageing: int = 300
     ring: int = 64
     steps: int = UNLIMITED
@@ -106,6 +107,7 @@ KEYS = {
         ("tick_ms", number(0, 60000), 0),
         ("hold", number(0, 1000000), 0),
         ("prompt", (is_truth, lambda _: True), False),
+        ("queues", word(("port", "class")), "port"),
     ],
     "bridge": [
         ("name", text(NAME), NONE),
@@ -328,7 +330,9 @@ def read_plan(octets):
         raise Fault("4 kind network")
     row = read_table(network, "network", "network")
     check_network(row)
-    plan = Plan(row["spanning"] == "rstp", row["prompt"], row["ageing"], row["ring"], row["steps"])
+    plan = Plan(
+        row["spanning"] == "rstp", row["prompt"], row["queues"] == "class", row["ageing"], row["ring"], row["steps"]
+    )
     used = set()
     plan.bridges = read_bridges(document)
     plan.links = read_links(document, plan.bridges, used)

@@ -18,8 +18,8 @@ pub enum Part {
 /// The first rule that a file of acceptances breaks.
 #[derive(PartialEq, Eq, Debug, Drop)]
 pub enum AcceptFault {
-    /// A rule of the file or of its keys, in the words of plan files. The path of a key begins with `accept[N].`, with N
-    /// from 0.
+    /// A rule of the file or of its keys, in the words of plan files. The path of a key begins with `accept[N].`, with
+    /// N from 0.
     Rule(PlanFault),
     /// A table names a part that the plan lacks.
     NoSuch {

@@ -104,8 +104,8 @@ fn document_of(alloc: Global, text: &str) -> Result<Table, AcceptFault>
 
 /// Reads the acceptances of a plan file: its tables `accept`, in the order of the file. `plan` is the plan of the file.
 ///
-/// Each table has exactly one of the keys `link` and `bridge`, with the name of a link or of a bridge, and `links`, with
-/// the names of two different links. It may have the key `service`, with the name of a service.
+/// Each table has exactly one of the keys `link` and `bridge`, with the name of a link or of a bridge, and `links`,
+/// with the names of two different links. It may have the key `service`, with the name of a service.
 ///
 /// # Errors
 ///

@@ -4,7 +4,7 @@ ghost use Rattle.std.specs.Prelude.{◌≤◌};
 
 use pb_frame::Memory;
 use pb_lan::{
-    BridgePlan, CustomerPlan, DEFAULT_AGEING, End, LinkPlan, Mac, Plan, PortState, Seq,
+    BridgePlan, CustomerPlan, DEFAULT_AGEING, End, LinkPlan, Mac, Plan, PortState, Queues, Seq,
     ServicePlan, Spanning, Text,
 };
 use std::alloc::Global;
@@ -106,6 +106,7 @@ pub fn line_of(alloc: Global, bridges: u8) -> Result<Plan, Memory>
         customers: Seq::from_vec(customers),
         spanning: Spanning::Fixed,
         prompt: false,
+        queues: Queues::PerPort,
         ageing: DEFAULT_AGEING,
         ring: 64,
         steps: 1_000_000,

@@ -19,7 +19,7 @@ use clap::{ArgMatches, Command, Error};
 use std::alloc::{AllocError, Global};
 
 /// The version of the program.
-const VERSION: &str = "0.5.0";
+const VERSION: &str = "0.6.0";
 
 /// The help of `flat`.
 const FLAT: &str = "Run one bridge on `in PORT HEX` lines from standard input";

@@ -6,6 +6,7 @@ use Rattle.pb_lan.specs.declared.plan.Plan.{Plan}
 use Rattle.pb_lan.specs.declared.plan.BridgePlan.{BridgePlan}
 use Rattle.pb_lan.specs.declared.plan.CustomerPlan.{CustomerPlan}
 use Rattle.pb_lan.specs.declared.plan.ServicePlan.{ServicePlan}
+use Rattle.pb_lan.specs.declared.plan.Queues.TheVariants.{PerPort}
 use Rattle.pb_lan.specs.declared.plan.Spanning.TheVariants.{Fixed}
 
 -- a locally administered address: 02-00-00-00-00-01
@@ -35,6 +36,7 @@ flat_plan ports = record {
   customers = flat_customers ports;
   spanning = Fixed;
   prompt = false;
+  queues = PerPort;
   ageing = default_ageing;
   ring = 64;
   steps = 18446744073709551615;

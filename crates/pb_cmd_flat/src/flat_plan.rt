@@ -4,7 +4,7 @@ ghost use Rattle.std.specs.Prelude.{◌≡◌, ◌<◌, ◌≤◌, ◌∷◌, []
 ghost use Rattle.pb_cmd_flat.specs.FlatPlans.{flat_bridge, flat_service, flat_customer, flat_customers, flat_plan};
 
 use pb_frame::{Mac, Memory, Seq, Text};
-use pb_lan::{BridgePlan, CustomerPlan, DEFAULT_AGEING, Plan, ServicePlan, Spanning};
+use pb_lan::{BridgePlan, CustomerPlan, DEFAULT_AGEING, Plan, Queues, ServicePlan, Spanning};
 use std::alloc::Global;
 
 /// Returns a name of one letter, by its ASCII code.
@@ -78,6 +78,7 @@ pub(crate) fn flat_plan(alloc: Global, ports: u8) -> Result<Plan, Memory>
         customers: Seq::from_vec(flat_customers(alloc, ports)?),
         spanning: Spanning::Fixed,
         prompt: false,
+        queues: Queues::PerPort,
         ageing: DEFAULT_AGEING,
         ring: 64,
         steps: u64::MAX,

@@ -30,6 +30,8 @@ fixed_text =
     ++ codes "#prompt = true\n"
     ++ codes "#tick_ms = 10\n"
     ++ codes "#hold = 200\n"
+    ++ codes "# With this key each traffic class of a port has a queue of its own:\n"
+    ++ codes "#queues = \"class\"\n"
 
 -- the keys of a network whose links form a loop: RSTP with a clock
 abbrev pub rstp_text : List ℕ
@@ -38,6 +40,8 @@ rstp_text =
     ++ codes "spanning = \"rstp\"\n"
     ++ codes "# A bridge sends its BPDUs as soon as its tree changes, and not with the next hello.\n"
     ++ codes "prompt = true\n"
+    ++ codes "# Each traffic class has a queue of its own, and no flood drops the BPDUs.\n"
+    ++ codes "queues = \"class\"\n"
     ++ codes "# The clock: a tick represents a second of the standard, and takes 10 milliseconds here. A\n"
     ++ codes "# large ring on a busy machine needs more.\n"
     ++ codes "tick_ms = 10\n"

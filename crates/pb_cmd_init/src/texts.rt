@@ -26,7 +26,9 @@ const FIXED: &str = "\
 #spanning = \"rstp\"\n\
 #prompt = true\n\
 #tick_ms = 10\n\
-#hold = 200\n";
+#hold = 200\n\
+# With this key each traffic class of a port has a queue of its own:\n\
+#queues = \"class\"\n";
 
 /// The keys of a network whose links form a loop.
 const RSTP: &str = "\
@@ -34,6 +36,8 @@ const RSTP: &str = "\
 spanning = \"rstp\"\n\
 # A bridge sends its BPDUs as soon as its tree changes, and not with the next hello.\n\
 prompt = true\n\
+# Each traffic class has a queue of its own, and no flood drops the BPDUs.\n\
+queues = \"class\"\n\
 # The clock: a tick represents a second of the standard, and takes 10 milliseconds here. A\n\
 # large ring on a busy machine needs more.\n\
 tick_ms = 10\n\

@@ -7,7 +7,7 @@ use Rattle.pb_lan.specs.Records.{IsLawfulRecord}
 use Rattle.pb_lan.specs.declared.plan.Plan.{Plan}
 use Rattle.pb_net.specs.Answers.{NetView, HaveRun}
 use Rattle.pb_relay.specs.Protocol.{spanning_tree}
-use Rattle.pb_converge.specs.Drives.{HasRested}
+use Rattle.pb_converge.specs.Drives.{HasRested, HasStood}
 use Rattle.pb_converge.specs.declared.rest.Rest.{Rest}
 use Rattle.pb_cmd_survive.specs.Failures.{downs}
 use Rattle.pb_cmd_survive.specs.Views.{AreViews}
@@ -19,10 +19,16 @@ use Rattle.pb_cmd_survive.specs.declared.impact.Impact.{Impact}
 abbrev pub IsCalm : Plan → ℕ → ℕ → Rest → NetView → Type 0
 IsCalm plan most events rest new = HasRested most events rest (fresh plan) new
 
--- both ends of each link that fails are disabled, and the bridges converge again
+-- the ticks of each bridge for which a network has been up before anything fails
+abbrev pub standing : ℕ
+standing = 60
+
+-- the bridges go on for a while, both ends of each link that fails are disabled, and the bridges converge again
 pub record HasFailedFrom (plan : Plan) (most events : ℕ) (failure : Failure) (calm : NetView) (rest : Rest) (new : NetView) : Type 0 where
+  pub stood : NetView
+  pub stands : HasStood plan.spanning standing events calm stood
   pub down : NetView
-  pub set_down : HaveRun calm (downs plan failure) down
+  pub set_down : HaveRun stood (downs plan failure) down
   pub settles : HasRested most events rest down new
 
 -- the bridges converge before the failure and after it

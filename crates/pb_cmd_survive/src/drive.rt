@@ -11,11 +11,15 @@ ghost use Rattle.pb_cmd_survive.specs.Failures.{downs, downs_of, is_hit, set_dow
 ghost use Rattle.pb_cmd_survive.specs.Impacts.{HasFailedFrom, IsDriven};
 
 use crate::failure::Failure;
-use pb_converge::{DriveFault, Rest, settle};
+use pb_converge::{DriveFault, Rest, settle, stand};
 use pb_frame::Memory;
 use pb_lan::{End, Event, LinkPlan, Plan};
 use pb_net::{Net, NetFault};
 use std::alloc::Global;
+
+/// The ticks of each bridge for which the network is up before anything fails. The spanning tree's hold counts have run
+/// down then.
+const STANDING: u32 = 60;
 
 /// The limits on driving a network to convergence.
 #[derive(Clone, Copy, PartialEq, Eq, Debug)]
@@ -93,7 +97,7 @@ fn take_down(alloc: Global, net: &mut Net, plan: &Plan, failure: Failure) -> Res
     }
 }
 
-/// Disables the links that fail, and drives the network to convergence again.
+/// Lets the network go on for a while, disables the links that fail, and drives the network to convergence again.
 fn fail(
     alloc: Global,
     net: &mut Net,
@@ -107,12 +111,13 @@ fn fail(
     ensures ok { IfOk result (λ rest.
         HasFailedFrom plan.now patience.ticks patience.events failure net.old rest net.new) }
 {
+    stand(net, plan, STANDING, patience.events)?;
     take_down(alloc, net, plan, failure)?;
     settle(alloc, net, plan, patience.ticks, patience.events)
 }
 
-/// Drives a new network to convergence, then into the failure and to convergence again. With `Failure::Nothing` it
-/// converges once.
+/// Drives a new network to convergence, on for a while, into the failure and to convergence again. With
+/// `Failure::Nothing` it converges once.
 pub(crate) fn drive(
     alloc: Global,
     net: &mut Net,

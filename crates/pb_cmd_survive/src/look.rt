@@ -36,10 +36,11 @@ fn last_views(
 
 /// Returns the impact of a failure on the network of a sound plan, for the services with these numbers.
 ///
-/// A new network converges. Then both ends of each link that fails are disabled, and the bridges converge again
-/// (IEEE 802.1D-2004 clause 17). With [`Failure::Nothing`] they converge once. The ticks of the impact are those after
-/// the failure. If the plan gives the states of the ports, no bridge ticks: a disabled port is Discarding, and all
-/// others keep their state. The active links and the groups are those of the states at the end.
+/// A new network converges and goes on for 60 ticks of each bridge. Then both ends of each link that fails are
+/// disabled, and the bridges converge again (IEEE 802.1D-2004 clause 17). With [`Failure::Nothing`] they converge once.
+/// The ticks of the impact are those after the failure. If the plan gives the states of the ports, no bridge ticks: a
+/// disabled port is Discarding, and all others keep their state. The active links and the groups are those of the
+/// states at the end.
 ///
 /// # Errors
 ///

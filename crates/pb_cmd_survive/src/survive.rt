@@ -200,8 +200,8 @@ fn put_survive<R: Threads + Sync, V: FailureProgress>(
 /// Each single link fails, and each single bridge and each two links if `asked.kinds` has them. [`look_at`] analyses a
 /// failure, [`look_at_all`] analyses several in parallel, and [`put_report`] makes the report, which is the same each
 /// time. `progress.looked` is called after each failure, and `progress.close` once, before anything is written,
-/// whatever the result. If `asked.as_tables` is set, the report is replaced by a table `accept` in TOML for each service
-/// that each failure disconnects.
+/// whatever the result. If `asked.as_tables` is set, the report is replaced by a table `accept` in TOML for each
+/// service that each failure disconnects.
 ///
 /// | Exit status | When | Text |
 /// |---|---|---|

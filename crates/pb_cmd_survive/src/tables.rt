@@ -2,7 +2,8 @@
 
 ghost use Rattle.std.specs.Prelude.{◌≡◌, ◌++◌, flat_map, string_bytes, OnOk};
 ghost use Rattle.std.specs.List.{zip};
-ghost use Rattle.pb_cmd_survive.specs.AcceptedTexts.{failure_key, accept_table, view_table, impact_tables, accept_tables};
+ghost use Rattle.pb_cmd_survive.specs.AcceptedTexts.{failure_key, accept_table, view_table, impact_tables};
+ghost use Rattle.pb_cmd_survive.specs.AcceptedTexts.{accept_tables};
 
 use crate::criteria::Criteria;
 use crate::failure::Failure;

@@ -5,6 +5,7 @@ use Rattle.pb_lan.specs.Events.{place_of, names_something, is_idle}
 use Rattle.pb_lan.specs.Numbering.{numbers_from}
 use Rattle.pb_lan.specs.declared.event.Event.{Event}
 use Rattle.pb_lan.specs.declared.event.Event.TheVariants.{Poll, Tick, Admin}
+use Rattle.pb_lan.specs.declared.plan.Spanning.{Spanning}
 use Rattle.pb_lan.specs.declared.plan.Spanning.TheVariants.{Fixed, Rstp}
 use Rattle.pb_net.specs.Answers.{NetView, IsAnswer}
 use Rattle.pb_net.specs.declared.did.Did.TheVariants.{Done}
@@ -82,6 +83,11 @@ pub record HasGoneRound (ticks events : ℕ) (old new : NetView) : Type 0 where
   pub count : ℕ
   pub rounds : AreRounds ticks count old new
   pub within : count ≤ events
+
+-- the plan gives the states and nothing was done, or this many rounds were gone
+abbrev pub HasStood : Spanning → ℕ → ℕ → NetView → NetView → Type 0
+HasStood Fixed ticks events old new = new ≡ old
+HasStood Rstp ticks events old new = HasGoneRound ticks events old new
 
 -- the plan gives the states and nothing was done, or the bridges are settled after rounds within the limits, or the
 -- limit of ticks is reached

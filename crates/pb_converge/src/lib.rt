@@ -1,5 +1,5 @@
-//! Drives a network to quiescence (`drain`) and its bridges to convergence (`settle`), over pb_net. `falls` disables
-//! the links, bridges and ports that a command's arguments name first. Begin reading at `settle`.
+//! Drives a network to quiescence (`drain`) and its bridges to convergence (`settle`) and on (`stand`), over pb_net.
+//! `falls` disables the links, bridges and ports that a command's arguments name first. Begin reading at `settle`.
 #![tactic(auto)]
 
 mod draining;
@@ -17,5 +17,5 @@ pub use fault::DriveFault;
 pub use nets::{fresh, shape_of};
 pub use rest::Rest;
 pub use resting::{fault_of, put_rest, rests};
-pub use settling::settle;
+pub use settling::{settle, stand};
 pub use suggesting::suggestion;

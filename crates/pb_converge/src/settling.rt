@@ -6,7 +6,8 @@ ghost use Rattle.pb_lan.specs.Plans.{IsSound};
 ghost use Rattle.pb_lan.specs.declared.plan.Spanning.TheVariants.{Rstp as by_protocol};
 ghost use Rattle.pb_lan.specs.declared.step.Place.TheVariants.{Bridge};
 ghost use Rattle.pb_relay.specs.Settled.{TellsSettled};
-ghost use Rattle.pb_converge.specs.Drives.{HaveDone, HasBeenDriven, HasTicked, IsRound, HasRested};
+ghost use Rattle.pb_converge.specs.Drives.{HaveDone, HasBeenDriven, HasTicked, IsRound, HasGoneRound, HasStood};
+ghost use Rattle.pb_converge.specs.Drives.{HasRested};
 
 use crate::draining::drain;
 use crate::fault::DriveFault;
@@ -104,6 +105,43 @@ fn rounds(
         was_settled = is_settled;
     }
     Ok(Rest::Unsettled(most))
+}
+
+/// Performs rounds, as many as `ticks`. Fails as [`settle`] does.
+fn go_round(net: &mut Net, plan: &Plan, ticks: u32, events: u64) -> Result<(), DriveFault>
+    requires sound { IsSound plan.now }
+    requires plan { net.old.plan ≡ plan.now }
+    ensures plan { net.new.plan ≡ plan.now }
+    ensures ok { OnOk result (HasGoneRound ticks events net.old net.new) }
+    ensures err { IfErr result (λ _. HasBeenDriven net.old net.new) }
+{
+    let mut done = 0;
+    for _tick in 0..ticks {
+        done += round(net, plan, events - done)?;
+    }
+    Ok(())
+}
+
+/// Lets the bridges of a network go on for `ticks` ticks of each, so that their timers and hold counts are those of a
+/// network that has been up for a while.
+///
+/// In each round every bridge ticks once, in the plan's order, and [`drain`] performs all that is due then. Nothing is
+/// done if the plan gives the states of the ports.
+///
+/// # Errors
+///
+/// Those of [`settle`].
+pub fn stand(net: &mut Net, plan: &Plan, ticks: u32, events: u64) -> Result<(), DriveFault>
+    requires sound { IsSound plan.now }
+    requires plan { net.old.plan ≡ plan.now }
+    ensures plan { net.new.plan ≡ plan.now }
+    ensures ok { OnOk result (HasStood plan.now.spanning ticks events net.old net.new) }
+    ensures err { IfErr result (λ _. HasBeenDriven net.old net.new) }
+{
+    match plan.spanning {
+        Spanning::Fixed => Ok(()),
+        Spanning::Rstp => go_round(net, plan, ticks, events),
+    }
 }
 
 /// Drives the bridges of a network to convergence (IEEE 802.1D-2004 clause 17).

@@ -81,6 +81,7 @@ pub const FAILOVER: &str =
 [network]
 spanning = "rstp"
 prompt = true
+queues = "class"
 tick_ms = 10
 
 [[bridge]]

@@ -10,7 +10,7 @@ use Rattle.pb_forest.proofs.Leftovers.{drained-left}
 use Rattle.pb_forest.proofs.Sums.{total, total-agree, total-append, total-map, total-plus, sum_by-total, total_at}
 use Rattle.pb_forest.proofs.Sums.{total-at, total_at-same, total_at-plus, total_at-none, total-lists, total-pairs}
 use Rattle.pb_forest.specs.Draining.{gains, losses, Balances}
-use Rattle.pb_history.specs.Draining.{is_marked, gain, loss}
+use Rattle.pb_history.specs.Draining.{is_marked, is_some_mark, gain, loss}
 use Rattle.pb_lan.proofs.QueueCounts.{balance}
 use Rattle.pb_lan.specs.Counts.{IsDrained}
 use Rattle.pb_lan.specs.LaneLists.{IsLawfulLane, taken, carried, put}
@@ -175,7 +175,8 @@ bridges-gain rules plan sound rec lawful =
     sym (bridges-total rules plan (queues plan) gain (step-queues rules plan sound) rec.bridges lawful.bridges)
     ∙ total-agree (λ p. total (queues plan p.0 p.1) (steps_of rec.bridges p.0))
     (λ p. sent_at rec p + left_at plan rec p)
-    (λ p. sym (queued-total plan p.0 p.1 (steps_of rec.bridges p.0)) ∙ balance is_marked rules plan p.0 p.1
+    (λ p. sym (queued-total plan p.0 p.1 (steps_of rec.bridges p.0)) ∙ balance is_marked
+    (λ item e. ap (λ m. is_some_mark m) e) rules plan p.0 p.1
     (steps_of rec.bridges p.0) (lawful.bridges p.0)) (used_ports plan)
     ∙ total-plus (sent_at rec) (left_at plan rec) (used_ports plan)
 

@@ -92,10 +92,10 @@ relayed-is plan b r _ = refl
 queues-is : (rules : Rules) (plan : Plan) (b r : ℕ) (earlier : List Step) (step : Step)
     → Fits rules plan b earlier step → queues plan b r step ≡ cond (gives step r) 1 0
 queues-is rules plan b r earlier step fits =
-    let own = count-none (λ w. is_marked w.item) (own_by r step)
+    let own = count-none (λ w. is_marked w.item) (own_by plan r step)
     (own-All (λ w. is_marked w.item ≡ false) plan b r step (λ item o. ap is_some_mark o.0)
     (step-own rules plan b earlier step fits)) in
-    let a = count_by-append (λ w. is_marked w.item) (relayed_by plan b r step) (own_by r step) in
+    let a = count_by-append (λ w. is_marked w.item) (relayed_by plan b r step) (own_by plan r step) in
     let c = relayed-is plan b r step in
     omega (arith, own, a, c)
 

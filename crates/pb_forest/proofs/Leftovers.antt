@@ -1,6 +1,6 @@
 -- No marked items remain in a record exactly if each frame has drained.
 use Rattle.std.proofs.Common.{◌≡◌, ℕ, zero, suc, ◌+◌, Some, None, Option, true, false, ◌&&◌, ◌==◌, List, [], ◌∷◌, map}
-use Rattle.std.proofs.Common.{slice_get, refl, sym, ◌∙◌, subst, arith}
+use Rattle.std.proofs.Common.{slice_get, refl, sym, ◌∙◌, ap, subst, arith}
 use Rattle.std.proofs.lemmas.Bool.{eqb-true}
 use Rattle.std.specs.Cmp.Derive.{both_true}
 use Rattle.std.specs.List.{AllByRecursion, count_by, list_any}
@@ -103,7 +103,8 @@ none-waits rules plan rec lawful h b r =
       | false ↦ λ e.
           let n = none-queued rules plan b r [] (steps_of rec.bridges b) (lawful.bridges b) e in
           let q = queued-total plan b r (steps_of rec.bridges b) in
-          let w = balance is_marked rules plan b r (steps_of rec.bridges b) (lawful.bridges b) in
+          let w = balance is_marked (λ item e. ap (λ m. is_some_mark m) e) rules plan b r (steps_of rec.bridges b)
+          (lawful.bridges b) in
           omega (arith, n, q, w)
     ] refl
 

@@ -16,7 +16,7 @@ use Rattle.pb_lan.specs.Forests.{HasEnds}
 use Rattle.pb_lan.specs.Numbering.{numbered}
 use Rattle.pb_lan.specs.Ports.{Port, port_at}
 use Rattle.pb_lan.specs.Queues.{Waiting, copy_of, copies, is_refused, class_of, priority_in, queued_by, relayed_by}
-use Rattle.pb_lan.specs.Queues.{own_by}
+use Rattle.pb_lan.specs.Queues.{own_by, own_class}
 use Rattle.pb_lan.specs.Records.{transmitted, IsLawfulRecord, steps_of, received, received_by}
 use Rattle.pb_lan.specs.Rules.{Rules}
 use Rattle.pb_lan.specs.Shapes.{moved_of}
@@ -71,12 +71,14 @@ step-own rules plan b earlier _ fits = tt
 
 -- a property of all of a bridge's own items holds of those that a step queues at a port
 pub own-All : (P : Waiting → Type 0) (plan : Plan) (b r : ℕ) (step : Step)
-    → ((item : Item) → IsOwn plan b (r, item) → P (record { class = 7; item = item }))
-    → AllByRecursion (λ m. AllByRecursion (IsOwn plan b) m.queued) (moved_of step) → AllByRecursion P (own_by r step)
+    → ((item : Item) → IsOwn plan b (r, item) → P (record { class = own_class plan.queues; item = item }))
+    → AllByRecursion (λ m. AllByRecursion (IsOwn plan b) m.queued) (moved_of step)
+    → AllByRecursion P (own_by plan r step)
 own-All P plan b r step h own =
     let all = flat_map (λ m. m.queued) (moved_of step) in
-    All-map P (λ q. record { class = 7; item = q.1 }) (filter (λ q. q.0 == r) all)
-    (All-imply (λ q. IsOwn plan b q × ((q.0 == r) ≡ true)) (λ q. P (record { class = 7; item = q.1 }))
+    All-map P (λ q. record { class = own_class plan.queues; item = q.1 }) (filter (λ q. q.0 == r) all)
+    (All-imply (λ q. IsOwn plan b q × ((q.0 == r) ≡ true))
+    (λ q. P (record { class = own_class plan.queues; item = q.1 }))
     (λ q k. h q.1 (subst (λ x. IsOwn plan b (x, q.1)) (eqb-true q.0 r k.1) k.0)) (filter (λ q. q.0 == r) all)
     (All-filter (IsOwn plan b) (λ q. q.0 == r) all (All-flat_map (IsOwn plan b) (λ m. m.queued) (moved_of step) own)))
 
@@ -120,7 +122,7 @@ module _ (rules : Rules) (plan : Plan) (rec : Record) (K Q : ℕ → ℕ → Ite
       → AllByRecursion (StepBelow n K b) steps → AllQueued (Below (n + 1) (Q b r)) plan b r steps
   steps-spread n b r earlier [] at lawful known = tt
   steps-spread n b r earlier (step ∷ steps) at lawful known = (
-    All-append (λ w. Below (n + 1) (Q b r) w.item) (relayed_by plan b r step) (own_by r step)
+    All-append (λ w. Below (n + 1) (Q b r) w.item) (relayed_by plan b r step) (own_by plan r step)
         (step-spread n b r earlier steps step at lawful.0 known.0)
         (own-All (λ w. Below (n + 1) (Q b r) w.item) plan b r step (λ item o few. s.own b r item o)
         (step-own rules plan b earlier step lawful.0)),

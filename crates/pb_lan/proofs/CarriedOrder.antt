@@ -49,7 +49,7 @@ pub queued-carried : (mark : Mark) (n : ℕ) (plan : Plan) (b r : ℕ) (step : S
     (queued_by plan b r step)
 queued-carried mark n plan b r step own =
     All-append (λ w. is_after mark (n + 1) w.item ≡ true → is_carry mark n r step ≡ true) (relayed_by plan b r step)
-    (own_by r step) (relayed step)
+    (own_by plan r step) (relayed step)
     (own-All (λ w. is_after mark (n + 1) w.item ≡ true → is_carry mark n r step ≡ true) plan b r step
     (λ item o m. absurd (true-false (is_after mark (n + 1) item) m (unmarked mark (n + 1) item o.0))) own)
   where

@@ -78,9 +78,9 @@ unmarked mark n item h = subst (λ o. (has_mark mark o && item.hops == n) ≡ fa
 -- the bridge's own items that a step queues do not count
 own-count : (mark : Mark) (n : ℕ) (plan : Plan) (b r : ℕ) (step : Step)
     → AllByRecursion (λ m. AllByRecursion (IsOwn plan b) m.queued) (moved_of step)
-    → count_waiting (is_after mark n) (own_by r step) ≡ 0
+    → count_waiting (is_after mark n) (own_by plan r step) ≡ 0
 own-count mark n plan b r step own =
-    count-none (λ w. is_after mark n w.item) (own_by r step)
+    count-none (λ w. is_after mark n w.item) (own_by plan r step)
     (own-All (λ w. is_after mark n w.item ≡ false) plan b r step (λ item o. unmarked mark n item o.0) own)
 
 -- the items that a step relays count at most one, and none if the step did not carry
@@ -96,7 +96,7 @@ pub carry-count : (mark : Mark) (n : ℕ) (rules : Rules) (plan : Plan) (b r : �
     → count_queued (is_after mark (n + 1)) plan b r steps ≤ count_by (is_carry mark n r) steps
 carry-count mark n rules plan b r earlier [] lawful = omega arith
 carry-count mark n rules plan b r earlier (step ∷ steps) lawful =
-    let a = count_by-append (λ w. is_after mark (n + 1) w.item) (relayed_by plan b r step) (own_by r step) in
+    let a = count_by-append (λ w. is_after mark (n + 1) w.item) (relayed_by plan b r step) (own_by plan r step) in
     let o = own-count mark (n + 1) plan b r step (step-own rules plan b earlier step lawful.0) in
     let c = relayed-count mark n plan b r step in
     let d = count_by-cons (is_carry mark n r) step steps in

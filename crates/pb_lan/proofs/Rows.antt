@@ -5,11 +5,12 @@ use Rattle.std.proofs.Common.{arith, slice_index, inl}
 use Rattle.pb_lan.proofs.ForestEdges.{Edge, trees_of}
 use Rattle.pb_lan.proofs.UniqueWalks.{Walk, walk-unique}
 use Rattle.pb_frame.specs.Admission.{block}
-use Rattle.pb_lan.specs.BridgeLists.{ruling, IsLawfulBridge, Fits}
+use Rattle.pb_lan.specs.BridgeLists.{ruling, replaced_by, IsLawfulBridge, Fits}
 use Rattle.pb_lan.specs.Choice.{chosen_ports, found}
 use Rattle.pb_lan.specs.Forests.{IsForest}
 use Rattle.pb_lan.specs.Ports.{port_at}
-use Rattle.pb_lan.specs.Queues.{copy_of}
+use Rattle.pb_frame.specs.Tags.{tagged}
+use Rattle.pb_lan.specs.Queues.{copy_of, is_full, own_class, waiting}
 use Rattle.pb_lan.specs.Rules.{Rules, nothing}
 use Rattle.pb_lan.specs.Shapes.{start_shape, is_active}
 use Rattle.pb_lan.specs.BridgeLists.Ruling.{Refuses, Carries}
@@ -18,6 +19,7 @@ use Rattle.pb_lan.specs.declared.plan.End.{End}
 use Rattle.pb_lan.specs.declared.plan.BridgePlan.{BridgePlan}
 use Rattle.pb_lan.specs.declared.plan.LinkPlan.{LinkPlan}
 use Rattle.pb_lan.specs.declared.plan.CustomerPlan.{CustomerPlan}
+use Rattle.pb_lan.specs.declared.plan.Queues.TheVariants.{PerPort, PerClass}
 use Rattle.pb_lan.specs.declared.plan.Spanning.TheVariants.{Fixed}
 use Rattle.pb_lan.specs.declared.shape.PortState.TheVariants.{Discarding, Forwarding}
 use Rattle.pb_lan.specs.declared.step.Item.{Item}
@@ -25,7 +27,7 @@ use Rattle.pb_lan.specs.declared.step.NoRoom.TheVariants.{Full}
 use Rattle.pb_lan.specs.declared.step.Outcome.TheVariants.{Relayed}
 use Rattle.pb_frame.specs.declared.reason.Reason.TheVariants.{NotForwarding, Reserved, Malformed, STagged, Long}
 use Rattle.pb_lan.specs.declared.step.Step.{Step}
-use Rattle.pb_lan.specs.declared.step.Step.TheVariants.{Receive, Transmit, Admin}
+use Rattle.pb_lan.specs.declared.step.Step.TheVariants.{Receive, Transmit, Tick, Admin}
 use Rattle.pb_frame.specs.declared.learnt.Learnt.TheVariants.{New, Kept}
 
 abbrev pub no_bpdus : Rules
@@ -64,6 +66,7 @@ plan_with links = record {
   customers = customer_of 1 1 2 1 ∷ customer_of 2 2 2 1 ∷ customer_of 3 2 3 2 ∷ [];
   spanning = Fixed;
   prompt = false;
+  queues = PerPort;
   ageing = 300;
   ring = 64;
   steps = 1000000;
@@ -195,10 +198,27 @@ no_forest (rooted, shows) =
 
 -- if the plan gives the states, a disabled port is Discarding and flushed
 abbrev pub down : Step
-down = Admin 1 false (record { states = (1, Discarding) ∷ []; flushed = 1 ∷ []; queued = []; dropped = [] })
+down = Admin 1 false (record {
+  states = (1, Discarding) ∷ [];
+  flushed = 1 ∷ [];
+  queued = [];
+  replaced = [];
+  dropped =
+      [];
+})
 
 down_fits : Fits no_bpdus plan 1 [] down
-down_fits = (refl, record { states = refl; flushed = refl; queued = refl; dropped = (refl, tt); own = tt })
+down_fits = (
+  refl,
+  record {
+    states = refl;
+    flushed = refl;
+    queued = refl;
+    replaced = refl;
+    dropped = (refl, tt);
+    own = tt;
+  },
+)
 
 after_down : (chosen_ports plan 1 (down ∷ []) 2 100 broadcast ≡ [])
     × (ruling no_bpdus plan 1 (down ∷ []) 1 over ≡ Refuses NotForwarding)
@@ -213,6 +233,7 @@ small = record {
   customers = customer_of 1 1 1 1 ∷ customer_of 2 1 2 1 ∷ customer_of 3 1 3 1 ∷ [];
   spanning = Fixed;
   prompt = false;
+  queues = PerPort;
   ageing = 300;
   ring = 64;
   steps = 1000000;
@@ -230,5 +251,48 @@ full_fits = (
   (
     refl,
     (inr ((Kept, refl, (refl, refl)), (refl, (refl, (refl, (refl, tt)))), refl), tt),
+  ),
+)
+
+-- the same bridge with a queue for each class: a frame of priority 7 finds its own queue empty, and the second one of
+-- priority 0 finds its queue full
+abbrev pub by_class : Plan
+by_class = record small { queues = PerClass }
+
+abbrev pub urgent : List ℕ
+urgent = tagged broadcast 7 0 0
+
+abbrev pub classes : List Step
+classes = Receive 1 (item_of 0 0 broadcast) (Some New) (Relayed (2 ∷ 3 ∷ []) []) None
+    ∷ Receive 1 (item_of 1 0 urgent) (Some Kept) (Relayed (2 ∷ 3 ∷ []) []) None
+    ∷ Transmit 3 (item_of 1 1 broadcast)
+    ∷ Receive 1 (item_of 2 0 broadcast) (Some Kept) (Relayed (2 ∷ 3 ∷ []) ((2, Full) ∷ (3, Full) ∷ [])) None
+    ∷ []
+
+-- a bridge's own BPDU leaves before all frames, and a newer one takes its place
+abbrev pub bpdu_of : ℕ → Item
+bpdu_of n = record { mark = None; hops = 0; wire = n ∷ [] }
+
+abbrev pub queues_bpdu : ℕ → List (ℕ × Item) → Step
+queues_bpdu n replaced =
+    Tick n (record { states = []; flushed = []; queued = (2, bpdu_of n) ∷ []; replaced = replaced; dropped = [] })
+
+bpdus_wait : waiting by_class 1 2 (classes ++ queues_bpdu 1 [] ∷ queues_bpdu 2 ((2, bpdu_of 1) ∷ []) ∷ [])
+    ≡ record { class = 1; item = item_of 0 1 broadcast } ∷ record { class = 7; item = item_of 1 1 broadcast }
+    ∷ record { class = 8; item = bpdu_of 2 } ∷ []
+bpdus_wait = refl
+
+bpdu_replaced : replaced_by by_class 1 (classes ++ queues_bpdu 1 [] ∷ []) ((2, bpdu_of 2) ∷ []) ≡ (2, bpdu_of 1) ∷ []
+bpdu_replaced = refl
+
+never_full : is_full by_class 1 (classes ++ queues_bpdu 1 [] ∷ []) (own_class PerClass) 2 ≡ false
+never_full = refl
+
+classes_fit : IsLawfulBridge no_bpdus by_class 1 classes
+classes_fit = (
+  inr ((New, refl, (refl, refl, refl)), (refl, (refl, (refl, (refl, tt)))), refl),
+  (
+    inr ((Kept, refl, (refl, refl)), (refl, (refl, (refl, (refl, tt)))), refl),
+    (refl, (inr ((Kept, refl, (refl, refl)), (refl, (refl, (refl, (refl, tt)))), refl), tt)),
   ),
 )

@@ -1,13 +1,13 @@
 -- The lists of steps that a bridge may take.
 use Rattle.std.specs.Prelude.{◌≡◌, ℕ, ◌+◌, ◌⊎◌, Bool, true, false, List, [], ◌∷◌, ◌++◌, Some, None, map, length, nat_lt, ◌==◌, ◌&&◌, not, if◌then◌else◌}
 use Rattle.std.specs.declared.option.Option.{Option}
-use Rattle.std.specs.List.{filter, list_any, AllByRecursion}
+use Rattle.std.specs.List.{filter, flat_map, list_any, AllByRecursion}
 use Rattle.pb_frame.specs.Admission.{same, is_reserved, provider_address, reserved_as, admission_cases}
 use Rattle.pb_frame.specs.Frames.{dst_of, shortest_frame, longest_frame}
 use Rattle.pb_frame.specs.Tags.{has_service_type, vid_of, shortest_tagged}
 use Rattle.pb_lan.specs.Choice.{now_after, Learns, chosen_ports}
 use Rattle.pb_lan.specs.Ports.{Port, port_at, vid_at, serves, is_provider}
-use Rattle.pb_lan.specs.Queues.{is_refused, is_full, waiting, next_out}
+use Rattle.pb_lan.specs.Queues.{is_refused, is_full, own_class, class_of, priority_in, replaced_in, waiting, next_out}
 use Rattle.pb_lan.specs.Rules.{Rules, Cause, change_of}
 use Rattle.pb_lan.specs.Shapes.{state_after}
 use Rattle.pb_frame.specs.declared.learnt.Learnt.{Learnt}
@@ -131,12 +131,19 @@ IsOwn plan bridge (port, item) =
 abbrev pub own_item : (ℕ × List ℕ) → (ℕ × Item)
 own_item (port, wire) = (port, record { mark = None; hops = 0; wire = wire })
 
--- a step reports what its cause changes: the states, the flushed ports, and each BPDU as queued or dropped
+-- the bridge's own BPDUs whose places these newer ones take, each with its port
+abbrev pub replaced_by : Plan → ℕ → List Step → List (ℕ × Item) → List (ℕ × Item)
+replaced_by plan bridge earlier queued =
+    flat_map (λ q. map (λ w. (q.0, w.item)) (replaced_in plan.queues (waiting plan bridge q.0 earlier))) queued
+
+-- a step reports what its cause changes: the states, the flushed ports, each BPDU as queued or dropped, and those whose
+-- places the queued ones take
 pub record Names (rules : Rules) (plan : Plan) (bridge : ℕ) (earlier : List Step) (cause : Cause) (moved : Moved) : Type 0 where
   pub states : moved.states ≡ (change_of rules plan bridge earlier cause).states
   pub flushed : moved.flushed ≡ (change_of rules plan bridge earlier cause).flushed
   pub queued : moved.queued ≡ map own_item (filter (λ s. not (is_refused moved.dropped s.0)) (change_of rules plan bridge earlier cause).sent)
-  pub dropped : AreRefused (is_full plan bridge earlier) (map (λ s. s.0) (change_of rules plan bridge earlier cause).sent) moved.dropped
+  pub replaced : moved.replaced ≡ replaced_by plan bridge earlier moved.queued
+  pub dropped : AreRefused (is_full plan bridge earlier (own_class plan.queues)) (map (λ s. s.0) (change_of rules plan bridge earlier cause).sent) moved.dropped
   pub own : AllByRecursion (IsOwn plan bridge) moved.queued
 
 -- out of memory: the frame is filtered, and nothing is learnt, queued or changed
@@ -162,7 +169,7 @@ Follows rules plan bridge earlier port item learnt outcome moved (LearnsOnly vid
 Follows rules plan bridge earlier port item learnt outcome moved (Carries vid) =
     IsGivenUp learnt outcome moved
     ⊎ (((l : Learnt) × (learnt ≡ Some l) × Learns plan bridge earlier port item.wire l)
-    × IsRelayed (is_full plan bridge earlier)
+    × IsRelayed (is_full plan bridge earlier (class_of (priority_in (port_at plan bridge port) item.wire)))
     (chosen_ports plan bridge (earlier ++ Receive port item learnt outcome moved ∷ []) port vid item.wire)
     outcome
     × (moved ≡ None))

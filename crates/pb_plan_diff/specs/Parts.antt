@@ -9,6 +9,8 @@ use Rattle.pb_lan.specs.declared.plan.CustomerPlan.{CustomerPlan}
 use Rattle.pb_lan.specs.declared.plan.End.{End}
 use Rattle.pb_lan.specs.declared.plan.LinkPlan.{LinkPlan}
 use Rattle.pb_lan.specs.declared.plan.ServicePlan.{ServicePlan}
+use Rattle.pb_lan.specs.declared.plan.Queues.{Queues}
+use Rattle.pb_lan.specs.declared.plan.Queues.TheVariants.{PerPort, PerClass}
 use Rattle.pb_lan.specs.declared.plan.Spanning.{Spanning}
 use Rattle.pb_lan.specs.declared.plan.Spanning.TheVariants.{Fixed, Rstp}
 use Rattle.pb_names.specs.Names.{bridge_name, service_name, state_word}
@@ -27,6 +29,11 @@ number_field key number = field key (decimal number)
 abbrev pub spanning_word : Spanning → List ℕ
 spanning_word Fixed = codes "fixed"
 spanning_word Rstp = codes "rstp"
+
+-- what the capacity of a queue counts
+abbrev pub queues_word : Queues → List ℕ
+queues_word PerPort = codes "port"
+queues_word PerClass = codes "class"
 
 abbrev pub truth_word : Bool → List ℕ
 truth_word true = codes "true"
@@ -58,6 +65,7 @@ losses_text losses = codes "[" ++ flat_map (λ n. 32 ∷ decimal n) losses ++ co
 abbrev pub network_fields : Plan → List Field
 network_fields plan =
     field (codes "spanning") (spanning_word plan.spanning) ∷ field (codes "prompt") (truth_word plan.prompt)
+    ∷ field (codes "queues") (queues_word plan.queues)
     ∷ number_field (codes "ageing") plan.ageing ∷ number_field (codes "ring") plan.ring ∷ number_field (codes "steps") plan.steps ∷ []
 
 abbrev pub bridge_fields : BridgePlan → List Field

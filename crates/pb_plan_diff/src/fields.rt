@@ -7,7 +7,7 @@ ghost use Rattle.pb_plan_diff.specs.Parts.{field, number_field, network_fields, 
 ghost use Rattle.pb_plan_diff.specs.Parts.{loss_fields, link_fields, service_fields, port_fields, services_text};
 
 use crate::part::{Field, number_field, text_field, word_field};
-use crate::texts::{losses_text, services_text, spanning_word, truth_word};
+use crate::texts::{losses_text, queues_word, services_text, spanning_word, truth_word};
 use pb_frame::{Memory, Text};
 use pb_lan::{BridgePlan, CustomerPlan, End, LinkPlan, Plan, ServicePlan};
 use pb_names::{bridge_name, service_name, state_word};
@@ -20,6 +20,7 @@ pub(crate) fn network_fields(alloc: Global, plan: &Plan) -> Result<Vec<Field>, M
     let mut fields = Vec::new(alloc);
     fields.push(word_field(alloc, "spanning", spanning_word(plan.spanning))?)?;
     fields.push(word_field(alloc, "prompt", truth_word(plan.prompt))?)?;
+    fields.push(word_field(alloc, "queues", queues_word(plan.queues))?)?;
     fields.push(number_field(alloc, "ageing", plan.ageing as u64)?)?;
     fields.push(number_field(alloc, "ring", plan.ring as u64)?)?;
     fields.push(number_field(alloc, "steps", plan.steps)?)?;

@@ -2,11 +2,11 @@
 
 ghost use Rattle.std.specs.Prelude.{◌≡◌, string_bytes, IfOk};
 ghost use Rattle.pb_lan.specs.Plans.{IsSound};
-ghost use Rattle.pb_plan_diff.specs.Parts.{spanning_word, truth_word, is_member, services_text, losses_text};
+ghost use Rattle.pb_plan_diff.specs.Parts.{spanning_word, queues_word, truth_word, is_member, services_text, losses_text};
 ghost use Rattle.std.specs.declared.option.Option.TheVariants.{Some as some_numbers};
 
 use pb_frame::{Memory, Seq, Text};
-use pb_lan::{Plan, Spanning};
+use pb_lan::{Plan, Queues, Spanning};
 use pb_names::service_named;
 use std::alloc::Global;
 
@@ -17,6 +17,16 @@ pub(crate) fn spanning_word(spanning: Spanning) -> &'static str
     match spanning {
         Spanning::Fixed => "fixed",
         Spanning::Rstp => "rstp",
+    }
+}
+
+/// Returns the word of the plan file for what the capacity of a queue counts.
+pub(crate) fn queues_word(queues: Queues) -> &'static str
+    ensures { result.now ≡ queues_word queues }
+{
+    match queues {
+        Queues::PerPort => "port",
+        Queues::PerClass => "class",
     }
 }
 

@@ -1,9 +1,14 @@
 -- BPDUs that are queued one by one. For the loop of `queue_bpdus`.
 use Rattle.std.proofs.Common.{ne_eqb, ◌≡◌, ◌≢◌, ℕ, zero, suc, ◌+◌, ◌-◌, ◌<◌, ◌≤◌, Bool, false, cond, not, is_some}
-use Rattle.std.proofs.Common.{None, Ok, Err, List, [], ◌∷◌, ◌++◌, map, length, take, get_or, refl, sym, ap, ◌∙◌}
+use Rattle.std.proofs.Common.{None, Some, append-nil, Ok, Err, List, [], ◌∷◌, ◌++◌, map, length, take, get_or, refl}
+use Rattle.std.proofs.Common.{sym, ap, ◌∙◌}
 use Rattle.std.proofs.Common.{subst, arith, eq-eqb}
 use Rattle.std.proofs.lemmas.List.{map-append, get_or-map, length-map, take_more}
 use Rattle.std.specs.declared.result.Result.{Result}
+use Rattle.std.specs.declared.option.Option.{Option}
+use Rattle.std.specs.Option.{option_to_list}
+use Rattle.std.specs.Prelude.{IfOk, IfSome}
+use Rattle.std.proofs.lemmas.Grind.{flat_map-append}
 use Rattle.std.specs.List.{AllByRecursion, filter, take-map}
 use Rattle.pb_frame.proofs.Lists.{filter-append}
 use Rattle.pb_lan.specs.BridgeLists.{own_item}
@@ -12,12 +17,18 @@ use Rattle.pb_lan.specs.declared.step.Item.{Item}
 use Rattle.pb_lan.specs.declared.step.NoRoom.{NoRoom}
 use Rattle.pb_bpdu.specs.Layout.{written}
 use Rattle.pb_bpdu.specs.declared.bpdu.Bpdu.{Bpdu}
-use Rattle.pb_relay.specs.Bpdus.{HasSent, told_queued, word_of, frames_of}
+use Rattle.pb_lan.specs.Queues.{own_class}
+use Rattle.pb_lan.specs.declared.plan.Queues.{Queues}
+use Rattle.pb_lan.specs.declared.plan.Queues.TheVariants.{PerPort, PerClass}
+use Rattle.pb_relay.specs.Bpdus.{HasSent, HasQueued, told_queued, told_replaced, word_of, frames_of}
+use Rattle.pb_relay.specs.Classes.{placed}
+use Rattle.pb_relay.specs.declared.backlog.Capacity.{Capacity}
+use Rattle.pb_relay.specs.declared.bpdus.Queued.{Queued}
 use Rattle.pb_relay.specs.Copies.{AreCopied, AreSeparate, named, item_with}
-use Rattle.pb_relay.specs.Moves.{own_at, own_queued, places_of}
-use Rattle.pb_relay.specs.Backlogs.{BacklogView, HasEnqueued, KeepsBacklog}
+use Rattle.pb_relay.specs.Moves.{own_at, own_queued, own_replaced, places_of}
+use Rattle.pb_relay.specs.Backlogs.{BacklogView, HasEnqueued, KeepsBacklog, at_place, is_full_at, older_in}
 use Rattle.pb_relay.proofs.CopyLemmas.{IsOther, refused-other, refused-own, none_refused, separate_at}
-use Rattle.pb_relay.proofs.CopyLemmas.{separate_before, copied_more, answered-keeps, answered-count}
+use Rattle.pb_relay.proofs.CopyLemmas.{separate_before, copied_more, uncopied, answered-keeps, answered-count}
 
 -- a port and its frame
 abbrev Send : Type 0
@@ -51,7 +62,7 @@ filter-others p g h e (f ∷ fs) a =
     ∙ ap (λ zs. cond (h f.0) (f ∷ zs) zs) (filter-others p g h e fs a.1)
 
 -- the queued frames after one more frame
-queued_more : (p : ℕ) (wire : List ℕ) (old new : BacklogView) (place : ℕ) (answer : Result Item NoRoom)
+queued_more : (p : ℕ) (wire : List ℕ) (old new : BacklogView) (place : ℕ) (answer : Result Queued NoRoom)
     (rs : List (ℕ × NoRoom)) (done : List Send)
     → HasSent old place wire answer new → is_refused rs p ≡ false → AllByRecursion (IsOther p) (places_of done)
     → own_queued (rs ++ named p (word_of answer)) (done ++ (p, wire) ∷ []) ≡ own_queued rs done ++ told_queued p answer
@@ -68,22 +79,68 @@ queued_more p wire old new place answer rs done h n a =
     (refused-own p (word_of answer) rs n)
     ∙ ap (λ zs. own_queued rs done ++ zs) (by_answer answer h)
   where
-    by_answer : (z : Result Item NoRoom) → HasSent old place wire z new
+    by_answer : (z : Result Queued NoRoom) → HasSent old place wire z new
         → map own_item (cond (not (is_some (word_of z))) ((p, wire) ∷ []) []) ≡ told_queued p z
-    by_answer (Ok item) k = ap (λ (x : Item). (p, x) ∷ []) (sym k.0)
+    by_answer (Ok queued) k = ap (λ (x : Item). (p, x) ∷ []) (sym k.0)
     by_answer (Err word) k = refl
 
 -- a BPDU that was queued or refused is an item that was queued or refused
-has_enqueued : (wire : List ℕ) (old new : BacklogView) (place : ℕ) (answer : Result Item NoRoom)
-    → HasSent old place wire answer new
-    → HasEnqueued old place 7 (item_with None 0 wire) (word_of answer) new
-has_enqueued wire old new place (Ok item) h = h.1
+has_enqueued : (wire : List ℕ) (old new : BacklogView) (place : ℕ) (answer : Result Queued NoRoom)
+    → HasSent old place wire answer new → HasQueued old place wire (word_of answer) new
+has_enqueued wire old new place (Ok queued) h = h.2
 has_enqueued wire old new place (Err word) h = h
 
 -- at most one item is reported of a port
-pub told-few : (p : ℕ) (answer : Result Item NoRoom) → length (told_queued p answer) ≤ 1
-told-few p (Ok item) = omega arith
+pub told-few : (p : ℕ) (answer : Result Queued NoRoom) → length (told_queued p answer) ≤ 1
+told-few p (Ok queued) = omega arith
 told-few p (Err word) = omega arith
+
+pub replaced-few : (p : ℕ) (answer : Result Queued NoRoom) → length (told_replaced p answer) ≤ 1
+replaced-few p (Ok queued) = by queued.older
+  where
+    by : (o : Option Item) → length (map {B = ℕ × Item} (λ item. (p, item)) (option_to_list o)) ≤ 1
+    by None = omega arith
+    by (Some item) = omega arith
+replaced-few p (Err word) = omega arith
+
+-- there is capacity for a BPDU that was replaced
+pub older-room : (from to : BacklogView) (place : ℕ) (wire : List ℕ) (answer : Result Queued NoRoom) (n m : ℕ)
+    → HasSent from place wire answer to → (from.capacity.queues ≡ PerClass → n < m)
+    → IfOk answer (λ queued. IfSome queued.older (λ _. n < m))
+older-room from to place wire (Ok queued) n m h l =
+    subst (λ (o : Option Item). IfSome o (λ _. n < m)) (sym h.1) (by from.capacity.queues refl)
+  where
+    some : (o : Option Item) → n < m → IfSome o (λ _. n < m)
+    some None k = tt
+    some (Some item) k = k
+
+    by : (queues : Queues) → from.capacity.queues ≡ queues
+        → IfSome (older_in from.capacity.queues (at_place from place)) (λ _. n < m)
+    by PerPort e = subst (λ (z : Queues). IfSome (older_in z (at_place from place)) (λ _. n < m)) (sym e) tt
+    by PerClass e = some (older_in from.capacity.queues (at_place from place)) (l e)
+older-room from to place wire (Err word) n m h l = tt
+
+-- the replaced BPDUs after one more BPDU was queued, or was not
+replaced_more : (p : ℕ) (wire : List ℕ) (first from to : BacklogView) (answer : Result Queued NoRoom)
+    (queued replaced : List (ℕ × Item)) → HasSent from (p - 1) wire answer to
+    → from.capacity ≡ first.capacity → get_or from.ports (p - 1) [] ≡ get_or first.ports (p - 1) []
+    → replaced ≡ own_replaced first.capacity.queues first.ports queued
+    → replaced ++ told_replaced p answer
+    ≡ own_replaced first.capacity.queues first.ports (queued ++ told_queued p answer)
+replaced_more p wire first from to answer queued replaced h same there told =
+    ap (λ zs. zs ++ told_replaced p answer) told
+    ∙ ap (λ zs. own_replaced first.capacity.queues first.ports queued ++ zs) (by answer h)
+    ∙ sym (flat_map-append (λ (q : ℕ × Item). map {B = ℕ × Item} (λ item. (q.0, item))
+    (option_to_list (older_in first.capacity.queues (get_or first.ports (q.0 - 1) [])))) queued (told_queued p answer))
+  where
+    by : (z : Result Queued NoRoom) → HasSent from (p - 1) wire z to
+        → told_replaced p z ≡ own_replaced first.capacity.queues first.ports (told_queued p z)
+    by (Ok x) k =
+        ap (λ o. map {B = ℕ × Item} (λ item. (p, item)) (option_to_list o))
+        (k.1 ∙ ap (λ (c : Capacity). older_in c.queues (get_or from.ports (p - 1) [])) same
+        ∙ ap (older_in first.capacity.queues) there)
+        ∙ sym (append-nil _)
+    by (Err word) k = refl
 
 -- a port and its BPDU
 abbrev Sent : Type 0
@@ -121,18 +178,21 @@ bpdu_place address sends i d l a =
 -- one step of the loop: one more BPDU is queued or refused, and is reported
 bpdu_more : (first from to : BacklogView) (address : List ℕ) (sends : List Sent) (i : ℕ) (d : Sent)
     (rs : List (ℕ × NoRoom))
-    (answer : Result Item NoRoom) (queued : List (ℕ × Item))
+    (answer : Result Queued NoRoom) (queued replaced : List (ℕ × Item))
     → i < length sends → AreSeparate (places_of (frames_of address sends))
-    → AreCopied first.capacity 7 (own_at (frames_of address sends)) first.ports
+    → AreCopied first.capacity (own_class first.capacity.queues) (own_at (frames_of address sends)) first.ports
     (take i (places_of (frames_of address sends))) rs from.ports
     → length from.ports ≡ 16 → KeepsBacklog first from → queued ≡ own_queued rs (take i (frames_of address sends))
+    → replaced ≡ own_replaced first.capacity.queues first.ports queued
     → HasSent from ((get_or sends i d).0 - 1) (written address (get_or sends i d).1) answer to
-    → AreCopied first.capacity 7 (own_at (frames_of address sends)) first.ports
+    → AreCopied first.capacity (own_class first.capacity.queues) (own_at (frames_of address sends)) first.ports
     (take (i + 1) (places_of (frames_of address sends)))
     (rs ++ named (get_or sends i d).0 (word_of answer)) to.ports
     × (queued ++ told_queued (get_or sends i d).0 answer
     ≡ own_queued (rs ++ named (get_or sends i d).0 (word_of answer)) (take (i + 1) (frames_of address sends)))
-bpdu_more first from to address sends i d rs answer queued l a copied count keeps told h =
+    × (replaced ++ told_replaced (get_or sends i d).0 answer
+    ≡ own_replaced first.capacity.queues first.ports (queued ++ told_queued (get_or sends i d).0 answer))
+bpdu_more first from to address sends i d rs answer queued replaced l a copied count keeps told told_too h =
     let fs = frames_of address sends in
     let ps = places_of fs in
     let x = get_or sends i d in
@@ -147,11 +207,18 @@ bpdu_more first from to address sends i d rs answer queued l a copied count keep
     let here : own_at fs x.0 ≡ item_with None 0 (written address x.1) =
     subst (λ (s : Send). own_at fs s.0 ≡ item_with None 0 s.1) f-at
     (own_at-here fs i (d.0, written address d.1) few a) in
-    let more = copied_more first from to 7 (own_at fs) (take i ps) rs x.0 (word_of answer) copied before
+    let class = own_class first.capacity.queues in
+    let enqueued : HasEnqueued from (x.0 - 1) (is_full_at from (x.0 - 1) class)
+    (placed class (item_with None 0 (written address x.1)) (at_place from (x.0 - 1))) (word_of answer) to =
+    subst (λ (c : Capacity). HasEnqueued from (x.0 - 1) (is_full_at from (x.0 - 1) (own_class c.queues))
+    (placed (own_class c.queues) (item_with None 0 (written address x.1)) (at_place from (x.0 - 1)))
+    (word_of answer) to) keeps.capacity (has_enqueued (written address x.1) from to (x.0 - 1) answer h) in
+    let more = copied_more first from to class (own_at fs) (take i ps) rs x.0 (word_of answer) copied before
     (bpdu_place address sends i d l a) count keeps
-    (subst (λ (z : Item). HasEnqueued from (x.0 - 1) 7 z (word_of answer) to) (sym here)
-    (has_enqueued (written address x.1) from to (x.0 - 1) answer h)) in (
-      subst (λ (zs : List ℕ). AreCopied first.capacity 7 (own_at fs) first.ports zs (rs ++ named x.0 (word_of answer))
+    (subst (λ (z : Item). HasEnqueued from (x.0 - 1) (is_full_at from (x.0 - 1) class)
+    (placed class z (at_place from (x.0 - 1))) (word_of answer) to) (sym here) enqueued) in (
+      subst (λ (zs : List ℕ). AreCopied first.capacity (own_class first.capacity.queues) (own_at fs) first.ports zs
+          (rs ++ named x.0 (word_of answer))
           to.ports)
           (sym (take_more ps i 0 fewer ∙ ap (λ k. take i ps ++ k ∷ []) p-at)) more,
       ap (λ zs. zs ++ told_queued x.0 answer) told
@@ -160,6 +227,9 @@ bpdu_more first from to address sends i d rs answer queued l a copied count keep
           (subst (λ (zs : List ℕ). AllByRecursion (IsOther x.0) zs) (take-map (λ (s : Send). s.0) i fs) before))
           ∙ ap (own_queued (rs ++ named x.0 (word_of answer)))
           (sym (take_more fs i (d.0, written address d.1) few ∙ ap (λ (s : Send). take i fs ++ s ∷ []) f-at)),
+      replaced_more x.0 (written address x.1) first from to answer queued replaced h keeps.capacity
+          (uncopied first.capacity class (own_at fs) first.ports (take i ps) rs from.ports x.0 copied before
+          (bpdu_place address sends i d l a)) told_too,
     )
 
 -- the port of the BPDU at this place is 1 to 16
@@ -170,36 +240,41 @@ place_of address sends i x l e a = subst (λ (y : Sent). (1 ≤ y.0) × (y.0 ≤
 
 pub one_bpdu : (first from to : BacklogView) (address : List ℕ) (sends : List Sent) (i : ℕ) (x : Sent)
     (rs : List (ℕ × NoRoom))
-    (answer : Result Item NoRoom) (queued : List (ℕ × Item))
+    (answer : Result Queued NoRoom) (queued replaced : List (ℕ × Item))
     → i < length sends → x ≡ get_or sends i x → AreSeparate (places_of (frames_of address sends))
-    → AreCopied first.capacity 7 (own_at (frames_of address sends)) first.ports
+    → AreCopied first.capacity (own_class first.capacity.queues) (own_at (frames_of address sends)) first.ports
     (take i (places_of (frames_of address sends))) rs from.ports
     → length from.ports ≡ 16 → KeepsBacklog first from → queued ≡ own_queued rs (take i (frames_of address sends))
+    → replaced ≡ own_replaced first.capacity.queues first.ports queued
     → HasSent from (x.0 - 1) (written address x.1) answer to
-    → AreCopied first.capacity 7 (own_at (frames_of address sends)) first.ports
+    → AreCopied first.capacity (own_class first.capacity.queues) (own_at (frames_of address sends)) first.ports
     (take (i + 1) (places_of (frames_of address sends)))
     (rs ++ named x.0 (word_of answer)) to.ports
     × (queued ++ told_queued x.0 answer ≡ own_queued (rs ++ named x.0 (word_of answer))
     (take (i + 1) (frames_of address sends)))
-one_bpdu first from to address sends i x rs answer queued l e a copied count keeps told h =
+    × (replaced ++ told_replaced x.0 answer
+    ≡ own_replaced first.capacity.queues first.ports (queued ++ told_queued x.0 answer))
+one_bpdu first from to address sends i x rs answer queued replaced l e a copied count keeps told told_too h =
     subst (λ (y : Sent). HasSent from (y.0 - 1) (written address y.1) answer to
-    → AreCopied first.capacity 7 (own_at (frames_of address sends)) first.ports
+    → AreCopied first.capacity (own_class first.capacity.queues) (own_at (frames_of address sends)) first.ports
     (take (i + 1) (places_of (frames_of address sends)))
     (rs ++ named y.0 (word_of answer)) to.ports
     × (queued ++ told_queued y.0 answer ≡ own_queued (rs ++ named y.0 (word_of answer))
-    (take (i + 1) (frames_of address sends))))
-    (sym e) (bpdu_more first from to address sends i x rs answer queued l a copied count keeps told) h
+    (take (i + 1) (frames_of address sends)))
+    × (replaced ++ told_replaced y.0 answer
+    ≡ own_replaced first.capacity.queues first.ports (queued ++ told_queued y.0 answer)))
+    (sym e) (bpdu_more first from to address sends i x rs answer queued replaced l a copied count keeps told told_too) h
 
 -- queueing one more BPDU changes only the waiting items
-pub sent_keeps : (first from to : BacklogView) (place : ℕ) (wire : List ℕ) (answer : Result Item NoRoom)
+pub sent_keeps : (first from to : BacklogView) (place : ℕ) (wire : List ℕ) (answer : Result Queued NoRoom)
     → KeepsBacklog first from
     → HasSent from place wire answer to → KeepsBacklog first to
 sent_keeps first from to place wire answer k h =
-    answered-keeps first from to place 7 (item_with None 0 wire) (word_of answer) k
+    answered-keeps first from to place _ _ (word_of answer) k
     (has_enqueued wire from to place answer h)
 
-pub sent_count : (from to : BacklogView) (place : ℕ) (wire : List ℕ) (answer : Result Item NoRoom)
+pub sent_count : (from to : BacklogView) (place : ℕ) (wire : List ℕ) (answer : Result Queued NoRoom)
     → HasSent from place wire answer to
     → length to.ports ≡ length from.ports
 sent_count from to place wire answer h =
-    answered-count from to place 7 (item_with None 0 wire) (word_of answer) (has_enqueued wire from to place answer h)
+    answered-count from to place _ _ (word_of answer) (has_enqueued wire from to place answer h)

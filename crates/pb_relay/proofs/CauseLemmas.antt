@@ -8,9 +8,9 @@ use Rattle.pb_bpdu.specs.Layout.{written}
 use Rattle.pb_bpdu.specs.declared.bpdu.Bpdu.{Bpdu}
 use Rattle.pb_frame.specs.Admission.{provider_address}
 use Rattle.pb_frame.specs.Frames.{dst_of}
-use Rattle.pb_lan.specs.BridgeLists.{Names, IsOwn, own_item, AreRefused}
+use Rattle.pb_lan.specs.BridgeLists.{Names, IsOwn, own_item, AreRefused, replaced_by}
 use Rattle.pb_lan.specs.Ports.{port_at}
-use Rattle.pb_lan.specs.Queues.{is_full, is_refused}
+use Rattle.pb_lan.specs.Queues.{is_full, own_class, is_refused}
 use Rattle.pb_lan.specs.Rules.{Cause, change_by, change_of, Change as LanChange}
 use Rattle.pb_lan.specs.declared.plan.Plan.{Plan}
 use Rattle.pb_lan.specs.declared.plan.Spanning.{Spanning}
@@ -173,13 +173,16 @@ pub names_change : (plan : Plan) (b : ℕ) (steps : List Step) (cause : Cause) (
     → plan.spanning ≡ Rstp → change ≡ (after (machine_of plan b steps) cause).change
     → sends ≡ frames_of (address_in plan b) change.send
     → moved.states ≡ change.states → moved.flushed ≡ change.flush
-    → moved.queued ≡ own_queued moved.dropped sends → AreRefused (is_full plan b steps) (places_of sends) moved.dropped
+    → moved.queued ≡ own_queued moved.dropped sends → moved.replaced ≡ replaced_by plan b steps moved.queued
+    → AreRefused (is_full plan b steps (own_class plan.queues)) (places_of sends) moved.dropped
     → Names spanning_tree plan b steps cause moved
-names_change plan b steps cause change moved sends rstp c f told flushed q r = record {
+names_change plan b steps cause change moved sends rstp c f told flushed q replaced r = record {
   states = told ∙ ap (λ (x : LanChange). x.states) same;
   flushed = flushed ∙ ap (λ (x : LanChange). x.flushed) same;
   queued = q ∙ ap (own_queued moved.dropped) sent;
-  dropped = subst (λ (ss : List (ℕ × List ℕ)). AreRefused (is_full plan b steps) (places_of ss) moved.dropped) sent r;
+  replaced = replaced;
+  dropped = subst (λ (ss : List (ℕ × List ℕ)). AreRefused (is_full plan b steps (own_class plan.queues)) (places_of ss)
+      moved.dropped) sent r;
   own = subst (AllByRecursion (IsOwn plan b)) (sym (q ∙ ap (own_queued moved.dropped) f))
       (all_own plan b (address_in plan b) moved.dropped change.send
       (subst (λ (x : Change). AllByRecursion (λ (s : ℕ × Bpdu). GoesToBridge (port_at plan b) s.0) x.send) (sym c)

@@ -1,6 +1,6 @@
 -- Copies that are queued port by port. For the loops of `queue_copies` and `queue_bpdus`.
 use Rattle.std.proofs.Common.{◌≡◌, ◌≢◌, ℕ, zero, suc, ◌+◌, ◌-◌, ◌<◌, ◌≤◌, Bool, true, false, cond, not, ◌&&◌, ◌||◌}
-use Rattle.std.proofs.Common.{is_some, Some, None, List, [], ◌∷◌, ◌++◌, map, length, take, get_or, set, nat_le, ◌==◌}
+use Rattle.std.proofs.Common.{is_some, Some, None, List, [], ◌∷◌, ◌++◌, map, length, take, get_or, set, ◌==◌}
 use Rattle.std.proofs.Common.{inl, inr, if◌then◌else◌, refl, sym, ap, ◌∙◌, subst, arith, eq-eqb}
 use Rattle.std.proofs.Math.Bool.{or-false}
 use Rattle.std.proofs.lemmas.Bool.{cases_eq, ne_eqb}
@@ -15,8 +15,9 @@ use Rattle.pb_lan.specs.BridgeLists.{AreRefused, is_named_full, is_full_word}
 use Rattle.pb_lan.specs.declared.step.Item.{Item}
 use Rattle.pb_lan.specs.declared.step.NoRoom.{NoRoom}
 use Rattle.pb_lan.specs.declared.step.NoRoom.TheVariants.{Full, Memory}
-use Rattle.pb_relay.specs.Classes.{number_in, put_in}
-use Rattle.pb_relay.specs.Backlogs.{BacklogView, at_place, is_full_at, HasEnqueued, KeepsBacklog}
+use Rattle.pb_relay.specs.Classes.{placed}
+use Rattle.pb_relay.specs.Backlogs.{BacklogView, at_place, is_full_at, is_full_in, HasEnqueued, KeepsBacklog}
+use Rattle.pb_relay.specs.declared.backlog.Capacity.{Capacity}
 use Rattle.pb_relay.specs.Copies.{AreCopied, AreSeparate, with_copy, named}
 
 abbrev pub IsOther : ℕ → ℕ → Type 0
@@ -115,42 +116,43 @@ refusals-more p word full done rs h a f =
           (refusals-others p word full rs done a h.1) (f ∙ sym (full-own p word rs n), tt),
     )
 
-answered-full : (from to : BacklogView) (place class : ℕ) (item : Item) (word : Option NoRoom)
-    → HasEnqueued from place class item word to → is_full_at from place ≡ is_full_answer word
-answered-full from to place class item None h = h.0
-answered-full from to place class item (Some Full) h = h.0
-answered-full from to place class item (Some Memory) h = h.0
+answered-full : (from to : BacklogView) (place : ℕ) (full : Bool) (qs : List (List Item)) (word : Option NoRoom)
+    → HasEnqueued from place full qs word to → full ≡ is_full_answer word
+answered-full from to place full qs None h = h.0
+answered-full from to place full qs (Some Full) h = h.0
+answered-full from to place full qs (Some Memory) h = h.0
 
 -- the items of a port with the copy, if it was queued
 abbrev with_answer : ℕ → Item → Option NoRoom → List (List Item) → List (List Item)
-with_answer class item word qs = if not (is_some word) then put_in class item qs else qs
+with_answer class item word qs = if not (is_some word) then placed class item qs else qs
 
-answered-copy : (from to : BacklogView) (place class : ℕ) (item : Item) (word : Option NoRoom)
-    → HasEnqueued from place class item word to
-    → to.ports ≡ set from.ports place (with_answer class item word (at_place from place))
-answered-copy from to place class item None h = ap (λ (o : BacklogView). o.ports) h.1
-answered-copy from to place class item (Some Full) h =
+answered-copy : (from to : BacklogView) (place : ℕ) (full : Bool) (qs : List (List Item)) (word : Option NoRoom)
+    → HasEnqueued from place full qs word to
+    → to.ports ≡ set from.ports place (cond (not (is_some word)) qs (at_place from place))
+answered-copy from to place full qs None h = ap (λ (o : BacklogView). o.ports) h.1
+answered-copy from to place full qs (Some Full) h =
     ap (λ (o : BacklogView). o.ports) h.1 ∙ sym (set-get_or from.ports place [])
-answered-copy from to place class item (Some Memory) h =
+answered-copy from to place full qs (Some Memory) h =
     ap (λ (o : BacklogView). o.ports) h.1 ∙ sym (set-get_or from.ports place [])
 
-pub answered-keeps : (first from to : BacklogView) (place class : ℕ) (item : Item) (word : Option NoRoom)
-    → KeepsBacklog first from → HasEnqueued from place class item word to → KeepsBacklog first to
-answered-keeps first from to place class item None k h = record {
+pub answered-keeps : (first from to : BacklogView) (place : ℕ) (full : Bool) (qs : List (List Item))
+    (word : Option NoRoom)
+    → KeepsBacklog first from → HasEnqueued from place full qs word to → KeepsBacklog first to
+answered-keeps first from to place full qs None k h = record {
   capacity = ap (λ (o : BacklogView). o.capacity) h.1 ∙ k.capacity;
   is_kept = ap (λ (o : BacklogView). o.is_kept) h.1 ∙ k.is_kept;
 }
-answered-keeps first from to place class item (Some Full) k h = subst (KeepsBacklog first) (sym h.1) k
-answered-keeps first from to place class item (Some Memory) k h = subst (KeepsBacklog first) (sym h.1) k
+answered-keeps first from to place full qs (Some Full) k h = subst (KeepsBacklog first) (sym h.1) k
+answered-keeps first from to place full qs (Some Memory) k h = subst (KeepsBacklog first) (sym h.1) k
 
 -- queueing a copy keeps the number of ports
-pub answered-count : (from to : BacklogView) (place class : ℕ) (item : Item) (word : Option NoRoom)
-    → HasEnqueued from place class item word to → length to.ports ≡ length from.ports
-answered-count from to place class item word h =
-    ap length (answered-copy from to place class item word h) ∙ length-set _ _ _
+pub answered-count : (from to : BacklogView) (place : ℕ) (full : Bool) (qs : List (List Item)) (word : Option NoRoom)
+    → HasEnqueued from place full qs word to → length to.ports ≡ length from.ports
+answered-count from to place full qs word h =
+    ap length (answered-copy from to place full qs word h) ∙ length-set _ _ _
 
 -- a port that was not tried has the items that it had
-uncopied : (capacity class : ℕ) (item_at : ℕ → Item) (old : List (List (List Item))) (done : List ℕ)
+pub uncopied : (capacity : Capacity) (class : ℕ) (item_at : ℕ → Item) (old : List (List (List Item))) (done : List ℕ)
     (rs : List (ℕ × NoRoom)) (new : List (List (List Item))) (p : ℕ)
     → AreCopied capacity class item_at old done rs new → AllByRecursion (IsOther p) done → (1 ≤ p) × (p ≤ 16)
     → get_or new (p - 1) [] ≡ get_or old (p - 1) []
@@ -162,19 +164,19 @@ uncopied capacity class item_at old done rs new p h a l =
     subst (λ (k : ℕ). list_any (λ x. x == k) done ≡ false) (sym s) (others-none p done a) in
     h.copies (p - 1) (omega arith)
     ∙ ap (λ b. cond (b && not (is_refused rs (p - 1 + 1)))
-    (put_in class (item_at (p - 1 + 1)) (get_or old (p - 1) [])) (get_or old (p - 1) [])) none
+    (placed class (item_at (p - 1 + 1)) (get_or old (p - 1) [])) (get_or old (p - 1) [])) none
 
 -- one step of the loop: one more port has its copy or is refused
-copied_at : (capacity class : ℕ) (item_at : ℕ → Item) (old : List (List (List Item))) (done : List ℕ)
+copied_at : (capacity : Capacity) (class : ℕ) (item_at : ℕ → Item) (old : List (List (List Item))) (done : List ℕ)
     (rs : List (ℕ × NoRoom)) (new : List (List (List Item))) (p : ℕ) (word : Option NoRoom)
     → AreCopied capacity class item_at old done rs new → AllByRecursion (IsOther p) done → (1 ≤ p) × (p ≤ 16)
     → length new ≡ 16
-    → nat_le capacity (number_in (get_or new (p - 1) [])) ≡ is_full_answer word
+    → is_full_in capacity class (get_or new (p - 1) []) ≡ is_full_answer word
     → AreCopied capacity class item_at old (done ++ p ∷ []) (rs ++ named p word)
     (set new (p - 1) (with_answer class (item_at p) word (get_or new (p - 1) [])))
 copied_at capacity class item_at old done rs new p word h a l n full = record {
-  refusals = refusals-more p word (λ port. nat_le capacity (number_in (get_or old (port - 1) []))) done rs h.refusals a
-      (ap (λ z. nat_le capacity (number_in z)) (sym same) ∙ full);
+  refusals = refusals-more p word (λ port. is_full_in capacity class (get_or old (port - 1) [])) done rs h.refusals a
+      (ap (is_full_in capacity class) (sym same) ∙ full);
   copies = λ r b. at r b;
 }
   where
@@ -196,8 +198,8 @@ copied_at capacity class item_at old done rs new p word h a l n full = record {
         ap (λ k. get_or (set new k after) r []) d
         ∙ get_or-set_same new r after [] (omega arith)
         ∙ ap (with_answer class (item_at p) word) (same ∙ ap (λ k. get_or old k []) d)
-        ∙ ap (λ b. cond (not b) (put_in class (item_at p) (get_or old r [])) (get_or old r [])) (sym own)
-        ∙ ap (λ b. cond (b && not (is_refused (rs ++ named p word) p)) (put_in class (item_at p) (get_or old r []))
+        ∙ ap (λ b. cond (not b) (placed class (item_at p) (get_or old r [])) (get_or old r [])) (sym own)
+        ∙ ap (λ b. cond (b && not (is_refused (rs ++ named p word) p)) (placed class (item_at p) (get_or old r []))
         (get_or old r [])) (sym any)
 
     other : (r : ℕ) → r < 16 → r + 1 ≢ p
@@ -210,10 +212,10 @@ copied_at capacity class item_at old done rs new p word h a l n full = record {
         list_any-append (λ x. x == r + 1) done (p ∷ []) ∙ ap (λ b. list_any (λ x. x == r + 1) done || (b || false))
         (ne_eqb p (r + 1) (λ z. f (sym z))) ∙ or-false (list_any (λ x. x == r + 1) done) in
         get_or-set_other new (p - 1) r after [] d ∙ h.copies r b
-        ∙ ap (λ b. cond (b && not (is_refused rs (r + 1))) (put_in class (item_at (r + 1)) (get_or old r []))
+        ∙ ap (λ b. cond (b && not (is_refused rs (r + 1))) (placed class (item_at (r + 1)) (get_or old r []))
         (get_or old r [])) (sym any)
         ∙ ap (λ b. cond (list_any (λ x. x == r + 1) (done ++ p ∷ []) && not b)
-        (put_in class (item_at (r + 1)) (get_or old r [])) (get_or old r []))
+        (placed class (item_at (r + 1)) (get_or old r [])) (get_or old r []))
         (sym (refused-other p (r + 1) word rs f))
 
     at : (r : ℕ) → r < 16 → get_or (set new (p - 1) after) r [] ≡ with_copy class item_at (done ++ p ∷ [])
@@ -228,14 +230,16 @@ pub copied_more : (first from to : BacklogView) (class : ℕ) (item_at : ℕ →
     (rs : List (ℕ × NoRoom)) (p : ℕ) (word : Option NoRoom)
     → AreCopied first.capacity class item_at first.ports done rs from.ports → AllByRecursion (IsOther p) done
     → (1 ≤ p) × (p ≤ 16)
-    → length from.ports ≡ 16 → KeepsBacklog first from → HasEnqueued from (p - 1) class (item_at p) word to
+    → length from.ports ≡ 16 → KeepsBacklog first from
+    → HasEnqueued from (p - 1) (is_full_at from (p - 1) class) (placed class (item_at p) (at_place from (p - 1))) word
+    to
     → AreCopied first.capacity class item_at first.ports (done ++ p ∷ []) (rs ++ named p word) to.ports
 copied_more first from to class item_at done rs p word h a l n k w =
     subst (AreCopied first.capacity class item_at first.ports (done ++ p ∷ []) (rs ++ named p word))
-    (sym (answered-copy from to (p - 1) class (item_at p) word w))
+    (sym (answered-copy from to (p - 1) _ _ word w))
     (copied_at first.capacity class item_at first.ports done rs from.ports p word h a l n
-    (ap (λ c. nat_le c (number_in (at_place from (p - 1)))) (sym k.capacity)
-    ∙ answered-full from to (p - 1) class (item_at p) word w))
+    (ap (λ (c : Capacity). is_full_in c class (at_place from (p - 1))) (sym k.capacity)
+    ∙ answered-full from to (p - 1) _ _ word w))
 
 -- each of the ports is 1 to 16
 pub separate_at : (ps : List ℕ) (i : ℕ) → i < length ps → AreSeparate ps → (1 ≤ get_or ps i 0) × (get_or ps i 0 ≤ 16)

@@ -14,6 +14,7 @@ use Rattle.pb_lan.specs.declared.step.Step.{Step}
 use Rattle.pb_lan.specs.declared.step.Step.TheVariants.{Receive}
 use Rattle.pb_rstp.specs.Ports.{Machine}
 use Rattle.pb_history.specs.StepLists.{StepsView, with_step as steps_with, given_back}
+use Rattle.pb_relay.specs.declared.backlog.Capacity.{Capacity}
 use Rattle.pb_relay.specs.LocalPorts.{IsConfigured}
 use Rattle.pb_relay.specs.Machines.{IsSpanning}
 use Rattle.pb_relay.specs.Protocol.{spanning_tree}
@@ -79,7 +80,7 @@ pub grown : {v : BridgeView} (s : Inside) (f : Forwarding) (clock : ℕ) (rstp :
     → Keeps (record s { forwarding = f; clock = clock; rstp = rstp; steps = steps })
 grown s f clock rstp steps step k view room e capacity kept standing table spanning =
     subst (λ (z : StepsView). Keeps (record s { forwarding = f; clock = clock; rstp = rstp; steps = z })) (sym e) (
-      subst (λ (n : ℕ). IsConfigured s.plan s.number s.ports n s.limit) (sym capacity) k.0,
+      subst (λ (n : Capacity). IsConfigured s.plan s.number s.ports n s.limit) (sym capacity) k.0,
       standing,
       record {
         within = omega (

@@ -8,6 +8,7 @@ use Rattle.pb_lan.specs.Ports.Port.{Customer, Provider, Unused}
 use Rattle.pb_lan.specs.Queues.{class_of, priority_in, wire_out}
 use Rattle.pb_lan.specs.declared.plan.Plan.{Plan}
 use Rattle.pb_lan.specs.declared.shape.PortState.{PortState}
+use Rattle.pb_relay.specs.declared.backlog.Capacity.{Capacity}
 use Rattle.pb_relay.specs.declared.load.Load.{Load}
 use Rattle.pb_relay.specs.PortKinds.{LocalPort, told}
 use Rattle.pb_relay.specs.PortKinds.LocalPort.{ToCustomer, ToBridge, ToNobody}
@@ -16,7 +17,7 @@ use Rattle.pb_relay.specs.Loads.{IsLoad, IsLoadedAt, brought, is_member_of}
 use Rattle.pb_relay.specs.LocalPorts.{IsKept, IsConfigured}
 
 -- the configuration of a local port is the plan's
-pub kept_here : (plan : Plan) (b : ℕ) (ports : List LocalPort) (capacity limit p : ℕ)
+pub kept_here : (plan : Plan) (b : ℕ) (ports : List LocalPort) (capacity : Capacity) (limit p : ℕ)
     → IsConfigured plan b ports capacity limit → (1 ≤ p) × (p ≤ 16)
     → IsKept plan (port_at plan b p) (get_or ports (p - 1) ToNobody)
 kept_here plan b ports capacity limit p k l =
@@ -87,7 +88,8 @@ class_is plan entry ToNobody wire load customers bridges k l = absurd l
 class_is plan _ _ wire load customers bridges k l = absurd k
 
 -- the forms that are made by the kinds of all ports are right for each port
-pub loaded : (plan : Plan) (b : ℕ) (ports : List LocalPort) (capacity limit : ℕ) (entry : Port) (here : LocalPort)
+pub loaded : (plan : Plan) (b : ℕ) (ports : List LocalPort) (capacity : Capacity) (limit : ℕ) (entry : Port)
+    (here : LocalPort)
     (wire : List ℕ) (load : Load)
     → IsConfigured plan b ports capacity limit → IsKept plan entry here
     → IsLoad (list_any is_to_customer ports) (list_any is_to_bridge ports) (told here) wire load

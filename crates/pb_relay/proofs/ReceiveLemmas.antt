@@ -11,7 +11,8 @@ use Rattle.pb_frame.specs.Lists.{first}
 use Rattle.pb_frame.specs.Stations.{Sighting, standing, is_sighted, where_in, IsLearnt}
 use Rattle.pb_frame.specs.declared.learnt.Learnt.{Learnt}
 use Rattle.pb_lan.specs.Ports.{port_at, local_ports}
-use Rattle.pb_lan.specs.Queues.{is_full, vid_in, copy_of}
+use Rattle.pb_lan.specs.Queues.{is_full, class_of, priority_in, vid_in, copy_of}
+use Rattle.pb_relay.specs.declared.backlog.Capacity.{Capacity}
 use Rattle.pb_relay.specs.Protocol.{spanning_tree}
 use Rattle.pb_lan.specs.Shapes.{state_after, changes_of, is_forwarding}
 use Rattle.pb_lan.specs.Choice.{now_after, news_of, found}
@@ -76,14 +77,14 @@ found_after plan b steps states queues now table newer port item learnt outcome 
 -- a step of relaying may come after the earlier ones
 relayed_fits : (plan : Plan) (b : ℕ) (steps : List Step) (states : List PortState)
     (queues : List (List (List Item))) (now : ℕ) (table newer : List Sighting)
-    (ports : List LocalPort) (capacity limit port vid : ℕ) (item : Item) (learnt : Learnt) (at : Option ℕ)
+    (ports : List LocalPort) (capacity : Capacity) (limit port vid : ℕ) (item : Item) (learnt : Learnt) (at : Option ℕ)
     (chosen : List ℕ) (refused : List (ℕ × NoRoom))
     → IsConfigured plan b ports capacity limit → IsStanding plan b steps states queues now table → 0 < plan.ageing
     → ruling spanning_tree plan b steps port item ≡ Carries vid
     → HasLearnt plan.ageing now vid port (src_of item.wire) table learnt newer
     → at ≡ cond (is_group (dst_of item.wire)) None (where_in plan.ageing now vid (dst_of item.wire) newer)
     → chosen ≡ filter (is_choice ports states port vid at) local_ports
-    → AreRefused (is_full plan b steps) chosen refused
+    → AreRefused (is_full plan b steps (class_of (priority_in (port_at plan b port) item.wire))) chosen refused
     → Fits spanning_tree plan b steps (learnt_step port item learnt (Relayed chosen refused))
 relayed_fits plan b steps states queues now table newer ports capacity limit port vid item learnt at chosen refused k
     s ageing r h e c f =
@@ -123,7 +124,8 @@ places : AllByRecursion IsPlace local_ports
 places = all_up IsPlace 16 1 (λ j a c. (a, omega arith))
 
 -- each chosen port gets the copy that the definition gives
-copies_are : (plan : Plan) (b : ℕ) (ports : List LocalPort) (states : List PortState) (capacity limit port vid : ℕ)
+copies_are : (plan : Plan) (b : ℕ) (ports : List LocalPort) (states : List PortState) (capacity : Capacity)
+    (limit port vid : ℕ)
     (at : Option ℕ) (item : Item) (load : Load) (p : ℕ)
     → IsConfigured plan b ports capacity limit → IsLoadedAt plan b (port_at plan b port) item.wire load
     → list_any (λ q. q == p) (filter (is_choice ports states port vid at) local_ports) ≡ true
@@ -175,9 +177,10 @@ relayed s new newer port vid item load learnt at chosen refused k r q h e c z f 
     let ageing : 0 < s.plan.ageing = omega arith in
     let old = s.forwarding in
     let full = refusals_are s.plan s.number s.steps.steps old.states old.backlog.ports s.clock old.table.sightings
-    old.backlog.capacity chosen refused k.1 k.0.most z f.refusals in
+    old.backlog.capacity load.class chosen refused k.1 k.0.most (let l = q.eight in omega (arith, l)) z f.refusals in
     let fits = relayed_fits s.plan s.number s.steps.steps old.states old.backlog.ports s.clock old.table.sightings newer
-    s.ports old.backlog.capacity s.limit port vid item learnt at chosen refused k.0 k.1 ageing r h e c full in
+    s.ports old.backlog.capacity s.limit port vid item learnt at chosen refused k.0 k.1 ageing r h e c
+    (subst (λ (n : ℕ). AreRefused (is_full s.plan s.number s.steps.steps n) chosen refused) q.class full) in
     let a = carried s.plan (port_at s.plan s.number port) (state_after s.plan s.number s.steps.steps port) item vid r
     in (
       fits,

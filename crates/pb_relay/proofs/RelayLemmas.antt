@@ -1,6 +1,6 @@
 -- The state of a bridge after it has relayed a frame.
 use Rattle.std.proofs.Common.{◌≡◌, ℕ, ◌<◌, ◌≤◌, Bool, true, false, cond, not, ◌&&◌, Some, None, List, [], ◌∷◌, ◌++◌}
-use Rattle.std.proofs.Common.{length, get_or, nat_le, ◌==◌, refl, sym, ap, ◌∙◌, arith, append-nil, ◌-◌}
+use Rattle.std.proofs.Common.{length, get_or, ◌==◌, refl, sym, ap, ◌∙◌, subst, arith, append-nil, ◌-◌}
 use Rattle.std.specs.List.{AllByRecursion, list_any}
 use Rattle.std.specs.declared.option.Option.{Option}
 use Rattle.pb_frame.specs.Frames.{src_of}
@@ -21,15 +21,17 @@ use Rattle.pb_lan.specs.declared.step.Outcome.{Outcome}
 use Rattle.pb_lan.specs.declared.step.Outcome.TheVariants.{Relayed}
 use Rattle.pb_lan.specs.declared.step.Step.{Step}
 use Rattle.pb_lan.specs.declared.step.Step.TheVariants.{Receive}
-use Rattle.pb_relay.specs.Classes.{number_in}
+use Rattle.pb_relay.specs.Backlogs.{capacity_in, is_full_in}
+use Rattle.pb_relay.specs.Classes.{by_class}
+use Rattle.pb_relay.specs.declared.backlog.Capacity.{Capacity}
 use Rattle.pb_fdb.proofs.LawLemmas.{stands-more}
-use Rattle.pb_relay.proofs.StandingLemmas.{kept_at, gets_copy, copy_for, after_step}
+use Rattle.pb_relay.proofs.GrowthLemmas.{Grows, full_by_class, copied as copied_there}
+use Rattle.pb_relay.proofs.StandingLemmas.{kept_at, gets_copy, copy_for, has_place, after_step}
 use Rattle.pb_relay.specs.Copies.{AreSeparate, AreCopied}
 use Rattle.pb_relay.specs.Standing.{IsStanding}
 use Rattle.pb_relay.specs.Protocol.{spanning_tree}
 use Rattle.pb_relay.specs.Tables.{seen_anew, HasLearnt}
 use Rattle.pb_relay.proofs.TableLemmas.{fresh_now, seen_live}
-use Rattle.pb_relay.proofs.WaitingLemmas.{number_by_class}
 use Rattle.pb_relay.proofs.StepLemmas.{states_stay, news_more}
 
 -- two tests of full queues that agree on the chosen ports refuse the same
@@ -91,10 +93,11 @@ same_copy false c class i j e = refl
 -- the bridge's state follows from its steps after it has relayed a frame
 pub after_relayed : (plan : Plan) (b : ℕ) (steps : List Step) (states : List PortState)
     (queues new : List (List (List Item))) (now : ℕ) (table newer : List Sighting) (port : ℕ) (item : Item)
-    (learnt : Learnt) (chosen : List ℕ) (refused : List (ℕ × NoRoom)) (capacity class : ℕ) (item_at : ℕ → Item)
+    (learnt : Learnt) (chosen : List ℕ) (refused : List (ℕ × NoRoom)) (capacity : Capacity) (class : ℕ)
+    (item_at : ℕ → Item)
     → IsStanding plan b steps states queues now table
     → Fits spanning_tree plan b steps (Receive port item (Some learnt) (Relayed chosen refused) None)
-    → AreRefused (is_full plan b steps) chosen refused
+    → AreRefused (is_full plan b steps class) chosen refused
     → AreCopied capacity class item_at queues chosen refused new → length new ≡ 16
     → class ≡ class_of (priority_in (port_at plan b port) item.wire) → class < 8
     → ((p : ℕ) → list_any (λ q. q == p) chosen ≡ true → item_at p ≡ copy_of plan (port_at plan b port)
@@ -107,7 +110,12 @@ after_relayed plan b steps states queues new now table newer port item learnt ch
     fits full copied count same small at ageing learns =
     let step : Step = Receive port item (Some learnt) (Relayed chosen refused) None in
     after_step plan b steps states states queues new now now table newer step capacity class item_at chosen refused s
-    fits (s.kept_states ∙ sym (states_stay plan b steps step refl)) full copied count small waits (omega arith)
+    fits (s.kept_states ∙ sym (states_stay plan b steps step refl)) copied count
+    (λ r. subst (Grows plan.queues (capacity_of plan b) class (item_at r) (gets_copy chosen refused r)
+    (waiting plan b r steps)) (sym (waits r))
+    (copied_there plan.queues (capacity_of plan b) class (item_at r) (gets_copy chosen refused r)
+    (waiting plan b r steps) small (s.classes r) (s.within r)
+    (has_place (is_full plan b steps class) chosen refused r full))) (omega arith)
     (newer_stands plan b steps states queues now table newer port item learnt (Relayed chosen refused) ageing s learns)
   where
     waits : (r : ℕ) → waiting plan b r (steps ++ Receive port item (Some learnt) (Relayed chosen refused) None ∷ [])
@@ -120,25 +128,25 @@ after_relayed plan b steps states queues new now table newer port item learnt ch
         (same_copy (list_any (λ p. p == r) chosen) (is_refused refused r) class
         (copy_of plan (port_at plan b port) (port_at plan b r) item) (item_at r) (λ t. sym (at r t)))
 
--- ports that are refused by the number of queued items are refused by the number of waiting items
+-- ports that are refused by the queued items are refused by the waiting items
 pub refusals_are : (plan : Plan) (b : ℕ) (steps : List Step) (states : List PortState)
-    (queues : List (List (List Item))) (now : ℕ) (table : List Sighting) (capacity : ℕ)
+    (queues : List (List (List Item))) (now : ℕ) (table : List Sighting) (capacity : Capacity) (class : ℕ)
     (chosen : List ℕ) (refused : List (ℕ × NoRoom))
-    → IsStanding plan b steps states queues now table → capacity ≡ capacity_of plan b → AreSeparate chosen
-    → AreRefused (λ port. nat_le capacity (number_in (get_or queues (port - 1) []))) chosen refused
-    → AreRefused (is_full plan b steps) chosen refused
-refusals_are plan b steps states queues now table capacity chosen refused s c a h =
-    refused-same (λ port. nat_le capacity (number_in (get_or queues (port - 1) []))) (is_full plan b steps) chosen
+    → IsStanding plan b steps states queues now table → capacity ≡ capacity_in plan b → class < 9 → AreSeparate chosen
+    → AreRefused (λ port. is_full_in capacity class (get_or queues (port - 1) [])) chosen refused
+    → AreRefused (is_full plan b steps class) chosen refused
+refusals_are plan b steps states queues now table capacity class chosen refused s c l a h =
+    refused-same (λ port. is_full_in capacity class (get_or queues (port - 1) [])) (is_full plan b steps class) chosen
     refused (each chosen a) h
   where
     one-port : (p : ℕ) → (1 ≤ p) × (p ≤ 16)
-        → nat_le capacity (number_in (get_or queues (p - 1) [])) ≡ is_full plan b steps p
-    one-port p l =
-        ap (λ q. nat_le capacity (number_in q)) (kept_at plan b steps states queues now table p s l)
-        ∙ ap (nat_le capacity) (number_by_class (waiting plan b p steps) (s.classes p))
-        ∙ ap (λ n. nat_le n (length (waiting plan b p steps))) c
+        → is_full_in capacity class (get_or queues (p - 1) []) ≡ is_full plan b steps class p
+    one-port p within =
+        ap (is_full_in capacity class) (kept_at plan b steps states queues now table p s within)
+        ∙ ap (λ (z : Capacity). is_full_in z class (by_class (waiting plan b p steps))) c
+        ∙ full_by_class plan.queues (capacity_of plan b) class (waiting plan b p steps) l (s.classes p)
 
     each : (ps : List ℕ) → AreSeparate ps
-        → AllByRecursion (λ p. nat_le capacity (number_in (get_or queues (p - 1) [])) ≡ is_full plan b steps p) ps
+        → AllByRecursion (λ p. is_full_in capacity class (get_or queues (p - 1) []) ≡ is_full plan b steps class p) ps
     each [] z = tt
     each (p ∷ ps) z = (one-port p z.0, each ps z.2)

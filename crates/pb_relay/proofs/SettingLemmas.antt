@@ -6,7 +6,7 @@ use Rattle.std.proofs.lemmas.List.{set-get_or}
 use Rattle.pb_frame.specs.Stations.{is_fresh}
 use Rattle.pb_lan.specs.Ports.{Port, port_at, is_provider, is_used}
 use Rattle.pb_lan.specs.Ports.Port.{Customer, Provider, Unused}
-use Rattle.pb_lan.specs.Queues.{is_full, is_refused}
+use Rattle.pb_lan.specs.Queues.{is_full, own_class, is_refused}
 use Rattle.pb_lan.specs.Rules.{is_same, planned_change, change_by, change_of, Change}
 use Rattle.pb_relay.specs.Protocol.{spanning_tree}
 use Rattle.pb_lan.specs.Rules.Cause.{Sets}
@@ -85,8 +85,9 @@ set_fits plan b steps p up fixed provider = (provider, names)
       states = ap (λ (ch : Change). ch.states) same;
       flushed = ap (λ (ch : Change). ch.flushed) same;
       queued = ap (λ (ss : List (ℕ × List ℕ)). map own_item (filter (λ s. not (is_refused [] s.0)) ss)) (sym unsent);
-      dropped = subst (λ (ss : List (ℕ × List ℕ)). AreRefused (is_full plan b steps) (map (λ s. s.0) ss) [])
-          (sym unsent) (refl, tt);
+      replaced = refl;
+      dropped = subst (λ (ss : List (ℕ × List ℕ)). AreRefused (is_full plan b steps (own_class plan.queues))
+          (map (λ s. s.0) ss) []) (sym unsent) (refl, tt);
       own = tt;
     }
 

@@ -1,23 +1,22 @@
 -- The state of a bridge after one more step. All calls use these.
 use Rattle.std.proofs.Common.{not, ◌≡◌, ℕ, zero, suc, slice_get, unwrap_or, ◌+◌, ◌-◌, ◌<◌, ◌≤◌, ◌≢◌, Bool, true}
 use Rattle.std.proofs.Common.{false, cond, ◌&&◌, Some, None, List, [], ◌∷◌, ◌++◌, map, length, get_or, set, ◌==◌}
-use Rattle.std.proofs.Common.{refl, sym, ap, ◌∙◌, subst, arith, append-nil, eq-eqb, add-zero, ◌||◌, nat_le}
-use Rattle.std.proofs.Common.{length-append}
+use Rattle.std.proofs.Common.{refl, sym, ap, ◌∙◌, subst, arith, append-nil, eq-eqb, add-zero, ◌||◌}
 use Rattle.std.proofs.lemmas.Bool.{eqb-true}
-use Rattle.std.proofs.lemmas.Bool.Decides.{nat_tests}
 use Rattle.std.proofs.lemmas.List.{length-set, get_or-set_same, get_or-set_other}
-use Rattle.std.specs.List.{filter, AllByRecursion, list_any}
+use Rattle.std.specs.List.{filter, flat_map, AllByRecursion, list_any}
 use Rattle.std.specs.Option.{option_map}
 use Rattle.pb_frame.proofs.StationLaws.{table_tells_what_stands}
 use Rattle.pb_frame.specs.Stations.{Sighting, News, is_fresh, standing, after_all}
-use Rattle.pb_frame.proofs.Lists.{first-found, All-at, All-append, and-right}
+use Rattle.pb_frame.proofs.Lists.{first-found, All-at, and-right}
 use Rattle.pb_fdb.proofs.LawLemmas.{live-dropped}
-use Rattle.pb_lan.proofs.SentWasQueued.{waiting_from-append}
+use Rattle.pb_lan.proofs.SentWasQueued.{waiting_from-append, without-All}
 use Rattle.pb_frame.specs.Lists.{first}
 use Rattle.pb_lan.specs.Plans.{IsSound, IsSoundBridge, IsSoundCustomer, IsSoundEnd}
 use Rattle.pb_lan.specs.Ports.{port_at, is_customer_at, is_end_at, all_ends, customer_or_else, provider_or_unused}
 use Rattle.pb_lan.specs.Ports.{is_used}
 use Rattle.pb_lan.specs.Queues.{Waiting, waiting, queued_by, after_sending, next_out, highest, without, is_full}
+use Rattle.pb_lan.specs.Queues.{after_replacing, without_replaced, own_class}
 use Rattle.pb_lan.specs.Queues.{is_refused, capacity_of}
 use Rattle.pb_lan.specs.Shapes.{moved_of, states_after}
 use Rattle.pb_lan.specs.Choice.{now_after, news_of, ticked, sightings}
@@ -30,17 +29,21 @@ use Rattle.pb_lan.specs.declared.plan.End.{End}
 use Rattle.pb_lan.specs.declared.plan.CustomerPlan.{CustomerPlan}
 use Rattle.pb_lan.specs.declared.shape.PortState.{PortState}
 use Rattle.pb_lan.specs.declared.step.Item.{Item}
+use Rattle.pb_lan.specs.declared.step.Moved.{Moved}
 use Rattle.pb_lan.specs.declared.step.NoRoom.{NoRoom}
 use Rattle.pb_lan.specs.declared.step.Step.{Step}
 use Rattle.pb_lan.specs.declared.step.Step.TheVariants.{Transmit, Tick}
-use Rattle.pb_relay.specs.Classes.{by_class, after_first, first_out, number_in, or_else, put_in}
+use Rattle.pb_relay.specs.Classes.{by_class, after_first, first_out, number_in, or_else}
 use Rattle.pb_relay.specs.Copies.{AreCopied, with_copy}
 use Rattle.pb_relay.specs.Moves.{own_at}
-use Rattle.pb_relay.specs.Standing.{IsStanding, AreClassed}
+use Rattle.pb_relay.specs.Backlogs.{capacity_in}
+use Rattle.pb_relay.specs.Standing.{IsStanding, IsClassed, AreClassed, AreWithin}
+use Rattle.pb_relay.specs.declared.backlog.Capacity.{Capacity}
 use Rattle.pb_relay.specs.Changes.{unmoved}
 use Rattle.pb_relay.specs.Protocol.{spanning_tree}
 use Rattle.pb_relay.proofs.CopyLemmas.{none_full}
-use Rattle.pb_relay.proofs.WaitingLemmas.{next_by_class, rest_by_class, number_by_class, without-below, by_class-push}
+use Rattle.pb_relay.proofs.GrowthLemmas.{Grows, stays, below_nine, within-without}
+use Rattle.pb_relay.proofs.WaitingLemmas.{next_by_class, rest_by_class, number_by_class}
 use Rattle.pb_relay.proofs.StepLemmas.{lawful_more, states_stay, now_more, news_stay}
 use Rattle.pb_relay.proofs.ClassLemmas.{no_first}
 
@@ -86,12 +89,6 @@ kept_at plan b steps states queues now table p s l =
     let e : p - 1 + 1 ≡ p = omega arith in
     s.kept_queues (p - 1) (omega arith) ∙ ap (λ r. by_class (waiting plan b r steps)) e
 
-without-fewer : (h : ℕ) (ws : List Waiting) → length (without h ws) ≤ length ws
-without-fewer h [] = omega arith
-without-fewer h (w ∷ ws) =
-    elim (w.class == h) as (λ b. length (cond b ws (w ∷ without h ws)) ≤ length (w ∷ ws))
-    [ true ↦ omega arith | false ↦ omega (arith, without-fewer h ws) ]
-
 -- what waits after an item was transmitted
 pub waiting-sent : (plan : Plan) (b r p : ℕ) (steps : List Step) (item : Item)
     → waiting plan b r (steps ++ Transmit p item ∷ []) ≡ cond (p == r)
@@ -122,17 +119,18 @@ after_transmit plan b steps states queues now table p item s l n = record {
     keep : (r : ℕ) (t : Bool)
         → AreClassed (cond t (without (highest (waiting plan b r steps)) (waiting plan b r steps))
         (waiting plan b r steps))
-    keep r true = without-below 8 (highest (waiting plan b r steps)) (waiting plan b r steps) (s.classes r)
+    keep r true = without-All IsClassed (highest (waiting plan b r steps)) (waiting plan b r steps) (s.classes r)
     keep r false = s.classes r
 
-    shorter : (r : ℕ) (t : Bool)
-        → length (cond t (without (highest (waiting plan b r steps)) (waiting plan b r steps))
-        (waiting plan b r steps)) ≤ length (waiting plan b r steps)
-    shorter r true = without-fewer (highest (waiting plan b r steps)) (waiting plan b r steps)
-    shorter r false = omega arith
+    shorter : (r : ℕ) (t : Bool) → AreWithin plan.queues (capacity_of plan b)
+        (cond t (without (highest (waiting plan b r steps)) (waiting plan b r steps)) (waiting plan b r steps))
+    shorter r true = within-without plan.queues (capacity_of plan b) (highest (waiting plan b r steps))
+        (waiting plan b r steps) (s.within r)
+    shorter r false = s.within r
 
-    fewer : (r : ℕ) → length (waiting plan b r (steps ++ Transmit p item ∷ [])) ≤ capacity_of plan b
-    fewer r = omega (arith, ap length (waiting-sent plan b r p steps item), shorter r (p == r), s.within r)
+    fewer : (r : ℕ) → AreWithin plan.queues (capacity_of plan b) (waiting plan b r (steps ++ Transmit p item ∷ []))
+    fewer r = subst (AreWithin plan.queues (capacity_of plan b)) (sym (waiting-sent plan b r p steps item))
+        (shorter r (p == r))
 
     here : (r : ℕ) → r < 16 → p ≡ r + 1 → get_or (set queues (p - 1) (after_first (get_or queues (p - 1) []))) r []
         ≡ by_class (without (highest (waiting plan b (r + 1) steps)) (waiting plan b (r + 1) steps))
@@ -142,7 +140,8 @@ after_transmit plan b steps states queues now table p item s l n = record {
         ap (λ i. get_or (set queues i (after_first (get_or queues i []))) r []) d
         ∙ get_or-set_same queues r (after_first (get_or queues r [])) [] (omega arith)
         ∙ ap after_first (s.kept_queues r h)
-        ∙ sym (rest_by_class (waiting plan b (r + 1) steps) (s.classes (r + 1)))
+        ∙ sym (rest_by_class (waiting plan b (r + 1) steps)
+        (below_nine (waiting plan b (r + 1) steps) (s.classes (r + 1))))
 
     other : (r : ℕ) → r < 16 → p ≢ r + 1 → get_or (set queues (p - 1) (after_first (get_or queues (p - 1) []))) r []
         ≡ by_class (waiting plan b (r + 1) steps)
@@ -177,7 +176,7 @@ pub next_at : (plan : Plan) (b : ℕ) (steps : List Step) (states : List PortSta
     ≡ next_out (waiting plan b p steps)
 next_at plan b steps states queues now table p s l =
     ap first_out (kept_at plan b steps states queues now table p s l)
-    ∙ next_by_class (waiting plan b p steps) (s.classes p)
+    ∙ next_by_class (waiting plan b p steps) (below_nine (waiting plan b p steps) (s.classes p))
 
 -- the queues of a port hold as many items as wait there
 pub number_at : (plan : Plan) (b : ℕ) (steps : List Step) (states : List PortState) (queues : List (List (List Item)))
@@ -186,7 +185,7 @@ pub number_at : (plan : Plan) (b : ℕ) (steps : List Step) (states : List PortS
     ≡ length (waiting plan b p steps)
 number_at plan b steps states queues now table p s l =
     ap number_in (kept_at plan b steps states queues now table p s l)
-    ∙ number_by_class (waiting plan b p steps) (s.classes p)
+    ∙ number_by_class (waiting plan b p steps) (below_nine (waiting plan b p steps) (s.classes p))
 
 -- if no item leaves next, no item waits
 pub none_waits : (qs : List (List Item)) → first_out qs ≡ None → number_in qs ≡ 0
@@ -216,32 +215,13 @@ among P (p ∷ ports) r h a =
     [ true ↦ λ e g. subst P (eqb-true p r e) a.0 | false ↦ λ e g. among P ports r g a.1 ] refl h
 
 -- the queue of a port that gets a copy is not full
-not_full : (full : ℕ → Bool) (chosen : List ℕ) (refused : List (ℕ × NoRoom)) (r : ℕ)
+pub not_full : (full : ℕ → Bool) (chosen : List ℕ) (refused : List (ℕ × NoRoom)) (r : ℕ)
     → AreRefused full chosen refused
     → list_any (λ p. p == r) chosen ≡ true → is_refused refused r ≡ false → full r ≡ false
 not_full full chosen refused r h c n = among (λ p. full p ≡ is_named_full refused p) chosen r c h.1
     ∙ none_full r refused n
 
--- the queues of a port with one more item, or without
-queue_relayed : (b : Bool) (class : ℕ) (item : Item) (ws : List Waiting) → class < 8
-    → by_class (ws ++ cond b (record { class = class; item = item } ∷ []) []) ≡ cond b
-    (put_in class item (by_class ws)) (by_class ws)
-queue_relayed true class item ws l = by_class-push ws (record { class = class; item = item }) l
-queue_relayed false class item ws l = ap by_class (append-nil ws)
-
-classes_relayed : (b : Bool) (class : ℕ) (item : Item) (ws : List Waiting) → class < 8 → AreClassed ws
-    → AreClassed (ws ++ cond b (record { class = class; item = item } ∷ []) [])
-classes_relayed true class item ws l a = All-append (λ w. w.class < 8) ws (record { class = class; item = item } ∷ [])
-    a (l, tt)
-classes_relayed false class item ws l a = All-append (λ w. w.class < 8) ws [] a tt
-
-fewer_relayed : (b : Bool) (w : Waiting) (ws : List Waiting) (most : ℕ) → length ws ≤ most
-    → (b ≡ true → nat_le most (length ws) ≡ false) → length (ws ++ cond b (w ∷ []) []) ≤ most
-fewer_relayed true w ws most l n = let f = n refl in let s : length ws < most = grind (arith, nat_tests) in omega
-    (arith, length-append ws (w ∷ []))
-fewer_relayed false w ws most l n = omega (arith, length-append ws [])
-
-and-true : (a c : Bool) → (a && not c) ≡ true → (a ≡ true) × (c ≡ false)
+pub and-true : (a c : Bool) → (a && not c) ≡ true → (a ≡ true) × (c ≡ false)
 and-true true false h = (refl, refl)
 and-true _ _ h = cc
 
@@ -253,43 +233,38 @@ abbrev pub copy_for : ℕ → (ℕ → Item) → List ℕ → List (ℕ × NoRoo
 copy_for class item_at chosen refused r =
     cond (gets_copy chosen refused r) (record { class = class; item = item_at r } ∷ []) []
 
+-- a port that gets an item has a place for it
+pub has_place : (full : ℕ → Bool) (chosen : List ℕ) (refused : List (ℕ × NoRoom)) (r : ℕ)
+    → AreRefused full chosen refused → gets_copy chosen refused r ≡ true → full r ≡ false
+has_place full chosen refused r h g =
+    let f = and-true (list_any (λ p. p == r) chosen) (is_refused refused r) g in
+    not_full full chosen refused r h f.0 f.1
+
 -- the bridge's state follows from its steps after a step that queues an item at some ports, each of which gets it or is
 -- refused
 pub after_step : (plan : Plan) (b : ℕ) (steps : List Step) (states new_states : List PortState)
     (queues new : List (List (List Item))) (now later : ℕ) (table newer : List Sighting) (step : Step)
-    (capacity class : ℕ) (item_at : ℕ → Item) (chosen : List ℕ) (refused : List (ℕ × NoRoom))
+    (capacity : Capacity) (class : ℕ) (item_at : ℕ → Item) (chosen : List ℕ) (refused : List (ℕ × NoRoom))
     → IsStanding plan b steps states queues now table → Fits spanning_tree plan b steps step
     → new_states ≡ states_after plan b (steps ++ step ∷ [])
-    → AreRefused (is_full plan b steps) chosen refused
-    → AreCopied capacity class item_at queues chosen refused new → length new ≡ 16 → class < 8
-    → ((r : ℕ) → waiting plan b r (steps ++ step ∷ []) ≡ waiting plan b r steps
-    ++ copy_for class item_at chosen refused r)
+    → AreCopied capacity class item_at queues chosen refused new → length new ≡ 16
+    → ((r : ℕ) → Grows plan.queues (capacity_of plan b) class (item_at r) (gets_copy chosen refused r)
+    (waiting plan b r steps) (waiting plan b r (steps ++ step ∷ [])))
     → later ≡ now + ticked step
     → filter (is_fresh plan.ageing later) newer ≡ standing plan.ageing later (news_of plan b (steps ++ step ∷ []))
     → IsStanding plan b (steps ++ step ∷ []) new_states new later newer
 after_step plan b steps states new_states queues new now later table newer step capacity class item_at chosen refused s
-    fits states_are full copied count small waits clock stations = record {
+    fits states_are copied count grows clock stations = record {
       lawful = lawful_more spanning_tree plan b steps step s.lawful fits;
       kept_states = states_are;
       count = count;
       kept_queues = λ r h. copied.copies r h
-          ∙ ap (λ q. with_copy class item_at chosen refused (r + 1) q) (s.kept_queues r h)
-          ∙ sym (queue_relayed (gets_copy chosen refused (r + 1)) class (item_at (r + 1)) (waiting plan b (r + 1) steps)
-          small)
-          ∙ ap by_class (sym (waits (r + 1)));
-      classes = λ r. subst AreClassed (sym (waits r))
-          (classes_relayed (gets_copy chosen refused r) class (item_at r) (waiting plan b r steps) small (s.classes r));
-      within = λ r. subst (λ (ws : List Waiting). length ws ≤ capacity_of plan b) (sym (waits r))
-          (fewer_relayed (gets_copy chosen refused r) (record { class = class; item = item_at r })
-          (waiting plan b r steps) (capacity_of plan b) (s.within r) (room r));
+          ∙ ap (λ q. with_copy class item_at chosen refused (r + 1) q) (s.kept_queues r h) ∙ sym (grows (r + 1)).kept;
+      classes = λ r. (grows r).classed;
+      within = λ r. (grows r).within;
       clock = clock ∙ ap (λ n. n + ticked step) s.clock ∙ sym (now_more steps step);
       stations = stations;
     }
-  where
-    room : (r : ℕ) → gets_copy chosen refused r ≡ true
-        → nat_le (capacity_of plan b) (length (waiting plan b r steps)) ≡ false
-    room r t = let f = and-true (list_any (λ p. p == r) chosen) (is_refused refused r) t in not_full
-        (is_full plan b steps) chosen refused r full f.0 f.1
 
 -- a step that queues nothing and reports no change leaves all but the learning table
 pub after_still : (plan : Plan) (b : ℕ) (steps : List Step) (states : List PortState)
@@ -301,11 +276,19 @@ pub after_still : (plan : Plan) (b : ℕ) (steps : List Step) (states : List Por
     → ((r : ℕ) (ws : List Waiting) → after_sending r step ws ≡ ws)
     → IsStanding plan b (steps ++ step ∷ []) states queues now newer
 after_still plan b steps states queues now table newer step s f m n t q a =
-    after_step plan b steps states states queues queues now now table newer step 0 0 (own_at []) [] [] s f
-    (s.kept_states ∙ sym (states_stay plan b steps step m)) (refl, tt)
-    (record { refusals = (refl, tt); copies = λ r h. refl }) s.count (omega arith)
-    (λ r. waiting_from-append plan b r [] steps step ∙ a r (waiting plan b r steps ++ queued_by plan b r step)
-    ∙ ap (λ ws. waiting plan b r steps ++ ws) (q r))
+    after_step plan b steps states states queues queues now now table newer step (capacity_in plan b) 0 (own_at []) []
+    []
+    s f (s.kept_states ∙ sym (states_stay plan b steps step m))
+    (record { refusals = (refl, tt); copies = λ r h. refl }) s.count
+    (λ r. stays plan.queues (capacity_of plan b) 0 (own_at [] r) (waiting plan b r steps)
+    (waiting plan b r (steps ++ step ∷ []))
+    (waiting_from-append plan b r [] steps step
+    ∙ a r (after_replacing plan r step (waiting plan b r steps) ++ queued_by plan b r step)
+    ∙ ap (λ ws. after_replacing plan r step (waiting plan b r steps) ++ ws) (q r)
+    ∙ append-nil (after_replacing plan r step (waiting plan b r steps))
+    ∙ ap (λ (ms : List Moved). cond (list_any (λ x. x.0 == r) (flat_map (λ z. z.queued) ms))
+    (without_replaced plan.queues (waiting plan b r steps)) (waiting plan b r steps)) m)
+    (s.classes r) (s.within r))
     (omega (arith, t)) n
 
 -- a step that also reports no station leaves the learning table too
@@ -335,8 +318,9 @@ fixed_names plan b steps cause fixed none = record {
   states = ap (λ (ch : Change). ch.states) same;
   flushed = ap (λ (ch : Change). ch.flushed) same;
   queued = ap (λ (ss : List (ℕ × List ℕ)). map own_item (filter (λ s. not (is_refused [] s.0)) ss)) unsent;
-  dropped = subst (λ (ss : List (ℕ × List ℕ)). AreRefused (is_full plan b steps) (map (λ s. s.0) ss) []) unsent
-      (refl, tt);
+  replaced = refl;
+  dropped = subst (λ (ss : List (ℕ × List ℕ)). AreRefused (is_full plan b steps (own_class plan.queues))
+      (map (λ s. s.0) ss) []) unsent (refl, tt);
   own = tt;
 }
   where

@@ -14,6 +14,10 @@ use Rattle.pb_lan.specs.declared.step.Item.{Item}
 use Rattle.pb_lan.specs.declared.shape.PortState.{PortState}
 use Rattle.pb_lan.specs.declared.shape.PortState.TheVariants.{Discarding}
 use Rattle.pb_relay.proofs.VerdictLemmas.{at_port}
+use Rattle.pb_lan.specs.Queues.{capacity_of}
+use Rattle.pb_lan.specs.declared.plan.Queues.{Queues}
+use Rattle.pb_lan.specs.declared.plan.Queues.TheVariants.{PerPort, PerClass}
+use Rattle.pb_relay.specs.Standing.{AreWithin}
 use Rattle.pb_relay.specs.Classes.{no_items}
 use Rattle.pb_relay.specs.LocalPorts.{IsKept}
 use Rattle.pb_relay.specs.Standing.{IsStanding}
@@ -67,11 +71,15 @@ started plan number ports states queues table keeps states_are queues_are table_
   count = grind (arith, common_steps, queues_are);
   kept_queues = λ r l. rw queues_are (get_or-replicate 16 r no_items [] l);
   classes = λ r. tt;
-  within = λ r. omega arith;
+  within = λ r. none_within plan.queues;
   clock = refl;
   stations = rw table_is refl;
 }
   where
+    none_within : (queues : Queues) → AreWithin queues (capacity_of plan number) []
+    none_within PerPort = omega arith
+    none_within PerClass = λ class. omega arith
+
     each : (i : ℕ) → i < length (map (λ l. first_state plan.spanning (told l)) ports)
         → get_or (map (λ l. first_state plan.spanning (told l)) ports) i Discarding ≡ get_or
         (map (state_after plan number []) local_ports) i Discarding

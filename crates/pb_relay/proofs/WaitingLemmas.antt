@@ -51,7 +51,7 @@ none_above F (suc n) k zero h =
 none_above F (suc n) k (suc m) h = none_above F n (k + 1) m (λ j l. h j (omega arith))
 
 -- the items of a class with one more item that waits
-of_class-push : (j : ℕ) (ws : List Waiting) (w : Waiting) → of_class j (ws ++ w ∷ []) ≡ of_class j ws
+pub of_class-push : (j : ℕ) (ws : List Waiting) (w : Waiting) → of_class j (ws ++ w ∷ []) ≡ of_class j ws
     ++ of_class j (w ∷ [])
 of_class-push j [] w = refl
 of_class-push j (v ∷ vs) w =
@@ -61,29 +61,30 @@ of_class-push j (v ∷ vs) w =
     ++ of_class j (w ∷ []))
     [ true ↦ ap (λ zs. v.item ∷ zs) (of_class-push j vs w) | false ↦ of_class-push j vs w ]
 
-of_class-own : (j : ℕ) (w : Waiting) (ws : List Waiting) → w.class ≡ j → of_class j (w ∷ ws) ≡ w.item ∷ of_class j ws
+pub of_class-own : (j : ℕ) (w : Waiting) (ws : List Waiting) → w.class ≡ j
+    → of_class j (w ∷ ws) ≡ w.item ∷ of_class j ws
 of_class-own j w ws e =
     ap (λ b. map (λ w. w.item) (cond b (w ∷ filter (λ w. w.class == j) ws) (filter (λ w. w.class == j) ws)))
     (eq-eqb w.class j e)
 
-of_class-other : (j : ℕ) (w : Waiting) (ws : List Waiting) → j ≢ w.class → of_class j (w ∷ ws) ≡ of_class j ws
+pub of_class-other : (j : ℕ) (w : Waiting) (ws : List Waiting) → j ≢ w.class → of_class j (w ∷ ws) ≡ of_class j ws
 of_class-other j w ws n =
     elim (w.class == j) as (λ b. (w.class == j) ≡ b → map (λ w. w.item)
     (cond b (w ∷ filter (λ w. w.class == j) ws) (filter (λ w. w.class == j) ws)) ≡ of_class j ws)
     [ true ↦ λ e. absurd (n (sym (eqb-true w.class j e))) | false ↦ λ e. refl ] refl
 
 -- one more item that waits is appended to its class
-pub by_class-push : (ws : List Waiting) (w : Waiting) → w.class < 8
+pub by_class-push : (ws : List Waiting) (w : Waiting) → w.class < 9
     → by_class (ws ++ w ∷ []) ≡ put_in w.class w.item (by_class ws)
 by_class-push ws w l =
     at_one (λ j. of_class j ws) (λ j. of_class j (ws ++ w ∷ [])) w.class
     (λ j n. of_class-push j ws w ∙ ap (λ zs. of_class j ws ++ zs) (of_class-other j w [] n) ∙ append-nil
     (of_class j ws))
-    8 0 w.class (omega arith) l
+    9 0 w.class (omega arith) l
     ∙ ap (set (by_class ws) w.class)
     (of_class-push w.class ws w ∙ ap (λ zs. of_class w.class ws ++ zs) (of_class-own w.class w [] refl)
     ∙ ap (λ zs. zs ++ w.item ∷ [])
-    (sym (get_class (λ j. of_class j ws) 8 0 w.class l ∙ ap (λ j. of_class j ws) zero-plus)))
+    (sym (get_class (λ j. of_class j ws) 9 0 w.class l ∙ ap (λ j. of_class j ws) zero-plus)))
   where
     zero-plus : 0 + w.class ≡ w.class
     zero-plus = omega arith
@@ -157,53 +158,53 @@ without-other j h (w ∷ ws) n =
     keep false ih = ih
 
 -- the highest class that is not empty is the highest class of an item
-highest_class : (w : Waiting) (ws : List Waiting) → AllByRecursion (λ w. w.class < 8) (w ∷ ws)
+highest_class : (w : Waiting) (ws : List Waiting) → AllByRecursion (λ w. w.class < 9) (w ∷ ws)
     → IsHighest (by_class (w ∷ ws)) (Some (highest (w ∷ ws)))
 highest_class w ws a =
     let h = highest (w ∷ ws) in
-    let l : h < 8 = highest-below 8 (w ∷ ws) (omega arith) a in
+    let l : h < 9 = highest-below 9 (w ∷ ws) (omega arith) a in
     let z : 0 + h ≡ h = omega arith in
-    let g : get_or (by_class (w ∷ ws)) h [] ≡ of_class h (w ∷ ws) = get_class (λ j. of_class j (w ∷ ws)) 8 0 h l
+    let g : get_or (by_class (w ∷ ws)) h [] ≡ of_class h (w ∷ ws) = get_class (λ j. of_class j (w ∷ ws)) 9 0 h l
     ∙ ap (λ j. of_class j (w ∷ ws)) z in
     is_highest (by_class (w ∷ ws)) h l
     (subst (λ (q : List Item). 0 < length q) (sym g) (highest-some w ws))
-    (none_above (λ j. of_class j (w ∷ ws)) 8 0 (suc h) (λ j b. above_highest j (w ∷ ws) (omega arith)))
+    (none_above (λ j. of_class j (w ∷ ws)) 9 0 (suc h) (λ j b. above_highest j (w ∷ ws) (omega arith)))
 
 -- the next item by class is the next item
-pub next_by_class : (ws : List Waiting) → AllByRecursion (λ w. w.class < 8) ws → first_out (by_class ws) ≡ next_out ws
+pub next_by_class : (ws : List Waiting) → AllByRecursion (λ w. w.class < 9) ws → first_out (by_class ws) ≡ next_out ws
 next_by_class [] a = refl
 next_by_class (w ∷ ws) a =
     let h = highest (w ∷ ws) in
-    let l : h < 8 = highest-below 8 (w ∷ ws) (omega arith) a in
+    let l : h < 9 = highest-below 9 (w ∷ ws) (omega arith) a in
     let z : 0 + h ≡ h = omega arith in
-    let g : get_or (by_class (w ∷ ws)) h [] ≡ of_class h (w ∷ ws) = get_class (λ j. of_class j (w ∷ ws)) 8 0 h l
+    let g : get_or (by_class (w ∷ ws)) h [] ≡ of_class h (w ∷ ws) = get_class (λ j. of_class j (w ∷ ws)) 9 0 h l
     ∙ ap (λ j. of_class j (w ∷ ws)) z in
     (highest_class w ws a).2 ∙ ap (λ q. slice_get q 0) g ∙ first_of_class h (w ∷ ws)
 
 -- the items by class without the next one are the items without the next one, by class
-pub rest_by_class : (ws : List Waiting) → AllByRecursion (λ w. w.class < 8) ws
+pub rest_by_class : (ws : List Waiting) → AllByRecursion (λ w. w.class < 9) ws
     → by_class (without (highest ws) ws) ≡ after_first (by_class ws)
 rest_by_class [] a = refl
 rest_by_class (w ∷ ws) a =
     let h = highest (w ∷ ws) in
-    let l : h < 8 = highest-below 8 (w ∷ ws) (omega arith) a in
+    let l : h < 9 = highest-below 9 (w ∷ ws) (omega arith) a in
     let z : 0 + h ≡ h = omega arith in
-    let g : get_or (by_class (w ∷ ws)) h [] ≡ of_class h (w ∷ ws) = get_class (λ j. of_class j (w ∷ ws)) 8 0 h l
+    let g : get_or (by_class (w ∷ ws)) h [] ≡ of_class h (w ∷ ws) = get_class (λ j. of_class j (w ∷ ws)) 9 0 h l
     ∙ ap (λ j. of_class j (w ∷ ws)) z in
-    at_one (λ j. of_class j (w ∷ ws)) (λ j. of_class j (without h (w ∷ ws))) h (λ j n. without-other j h (w ∷ ws) n) 8
+    at_one (λ j. of_class j (w ∷ ws)) (λ j. of_class j (without h (w ∷ ws))) h (λ j n. without-other j h (w ∷ ws) n) 9
     0 h (omega arith) l
     ∙ ap (set (by_class (w ∷ ws)) h) (without-own h (w ∷ ws) ∙ ap (drop 1) (sym g))
     ∙ sym (highest_class w ws a).3
 
 -- the items by class are as many as the items
-pub number_by_class : (ws : List Waiting) → AllByRecursion (λ w. w.class < 8) ws → number_in (by_class ws) ≡ length ws
+pub number_by_class : (ws : List Waiting) → AllByRecursion (λ w. w.class < 9) ws → number_in (by_class ws) ≡ length ws
 number_by_class [] a = refl
 number_by_class (w ∷ ws) a =
     let z : 0 + w.class ≡ w.class = omega arith in
-    let g : get_or (by_class ws) w.class [] ≡ of_class w.class ws = get_class (λ j. of_class j ws) 8 0 w.class a.0
+    let g : get_or (by_class ws) w.class [] ≡ of_class w.class ws = get_class (λ j. of_class j ws) 9 0 w.class a.0
     ∙ ap (λ j. of_class j ws) z in
     let e : by_class (w ∷ ws) ≡ set (by_class ws) w.class (w.item ∷ of_class w.class ws) =
-    at_one (λ j. of_class j ws) (λ j. of_class j (w ∷ ws)) w.class (λ j n. of_class-other j w ws n) 8 0 w.class
+    at_one (λ j. of_class j ws) (λ j. of_class j (w ∷ ws)) w.class (λ j n. of_class-other j w ws n) 9 0 w.class
     (omega arith) a.0
     ∙ ap (set (by_class ws) w.class) (of_class-own w.class w ws refl) in
     omega (
@@ -213,11 +214,3 @@ number_by_class (w ∷ ws) a =
       ap length g,
       number_by_class ws a.1,
     )
-
--- removing one item leaves the classes of the others in range
-pub without-below : (n h : ℕ) (ws : List Waiting) → AllByRecursion (λ w. w.class < n) ws
-    → AllByRecursion (λ w. w.class < n) (without h ws)
-without-below n h [] a = tt
-without-below n h (w ∷ ws) a =
-    elim (w.class == h) as (λ b. AllByRecursion (λ w. w.class < n) (cond b ws (w ∷ without h ws)))
-    [ true ↦ a.1 | false ↦ (a.0, without-below n h ws a.1) ]

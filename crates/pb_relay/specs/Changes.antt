@@ -17,7 +17,7 @@ use Rattle.pb_relay.specs.declared.ports.Local.TheVariants.{Customer as customer
 
 -- a report of no change
 abbrev pub unmoved : Moved
-unmoved = record { states = []; flushed = []; queued = []; dropped = [] }
+unmoved = record { states = []; flushed = []; queued = []; replaced = []; dropped = [] }
 
 -- the bridge has appended one Tick step, which may come there
 abbrev pub HasTicked : BridgeView → BridgeView → Type 0
@@ -31,6 +31,7 @@ moved_by_setting plan number steps port up = record {
   states = (planned_change plan number steps (Sets port up)).states;
   flushed = (planned_change plan number steps (Sets port up)).flushed;
   queued = [];
+  replaced = [];
   dropped = [];
 }
 
@@ -54,4 +55,4 @@ ports_flushed port false = port ∷ []
 
 -- the changes of a port that is enabled or disabled and goes from one state to another
 abbrev pub moved_to : ℕ → Bool → PortState → PortState → Moved
-moved_to port up old new = record { states = from_to port old new; flushed = ports_flushed port up; queued = []; dropped = [] }
+moved_to port up old new = record { states = from_to port old new; flushed = ports_flushed port up; queued = []; replaced = []; dropped = [] }

@@ -4,7 +4,8 @@ use Rattle.pb_lan.specs.Ports.{Port, port_at, vid_at, has_vid, serves}
 use Rattle.pb_lan.specs.Ports.Port.{Customer, Provider, Unused}
 use Rattle.pb_lan.specs.Plans.{IsSound}
 use Rattle.pb_lan.specs.declared.plan.Plan.{Plan}
-use Rattle.pb_lan.specs.Queues.{capacity_of}
+use Rattle.pb_relay.specs.Backlogs.{capacity_in}
+use Rattle.pb_relay.specs.declared.backlog.Capacity.{Capacity}
 use Rattle.pb_relay.specs.PortKinds.{LocalPort, serves_of}
 use Rattle.pb_relay.specs.PortKinds.LocalPort.{ToCustomer, ToBridge, ToNobody}
 
@@ -16,9 +17,9 @@ IsKept plan Unused ToNobody = Unit {0}
 IsKept plan _ _ = ⊥
 
 -- the bridge is configured as the plan has it: its ports, the most items at a port and the most steps
-pub record IsConfigured (plan : Plan) (number : ℕ) (ports : List LocalPort) (capacity limit : ℕ) : Type 0 where
+pub record IsConfigured (plan : Plan) (number : ℕ) (ports : List LocalPort) (capacity : Capacity) (limit : ℕ) : Type 0 where
   pub sound : IsSound plan
   pub count : length ports ≡ 16
   pub kept_ports : (r : ℕ) → r < 16 → IsKept plan (port_at plan number (r + 1)) (slice_index_or ports r ToNobody)
-  pub most : capacity ≡ capacity_of plan number
+  pub most : capacity ≡ capacity_in plan number
   pub steps : limit ≡ plan.steps

@@ -1,11 +1,14 @@
 -- The changes of a bridge's spanning tree.
-use Rattle.std.specs.Prelude.{◌≡◌, ℕ, ◌-◌, ◌≤◌, true, List, [], ◌∷◌, None, map, slice_set, ◌==◌, not, if◌then◌else◌}
-use Rattle.std.specs.List.{filter}
+use Rattle.std.specs.Prelude.{◌≡◌, ℕ, ◌-◌, ◌≤◌, true, List, [], ◌∷◌, None, map, slice_set, slice_index_or, ◌==◌, not, if◌then◌else◌}
+use Rattle.std.specs.List.{filter, flat_map}
+use Rattle.std.specs.Option.{option_to_list}
 use Rattle.pb_fdb.specs.Tables.{Table, flushed}
 use Rattle.pb_lan.specs.BridgeLists.{own_item}
 use Rattle.pb_lan.specs.Ports.{port_at, is_provider}
 use Rattle.pb_lan.specs.Queues.{is_refused}
 use Rattle.pb_lan.specs.declared.plan.Plan.{Plan}
+use Rattle.pb_lan.specs.declared.plan.Queues.{Queues}
+use Rattle.pb_relay.specs.Backlogs.{older_in}
 use Rattle.pb_lan.specs.declared.shape.PortState.{PortState}
 use Rattle.pb_lan.specs.declared.step.Item.{Item}
 use Rattle.pb_lan.specs.declared.step.NoRoom.{NoRoom}
@@ -33,6 +36,11 @@ places_of sends = map (λ s. s.0) sends
 -- the frames that were queued, as items of the bridge's own
 abbrev pub own_queued : List (ℕ × NoRoom) → List (ℕ × List ℕ) → List (ℕ × Item)
 own_queued dropped sends = map own_item (filter (λ s. not (is_refused dropped s.0)) sends)
+
+-- the BPDUs whose places these newer ones take, given what waits at each port
+abbrev pub own_replaced : Queues → List (List (List Item)) → List (ℕ × Item) → List (ℕ × Item)
+own_replaced queues ports queued =
+    flat_map (λ q. map (λ item. (q.0, item)) (option_to_list (older_in queues (slice_index_or ports (q.0 - 1) [])))) queued
 
 -- the port is a local port that goes to another bridge
 abbrev pub IsBridgePort : Plan → ℕ → ℕ → Type 0

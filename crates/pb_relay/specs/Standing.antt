@@ -1,5 +1,5 @@
 -- How a bridge's state follows from its steps.
-use Rattle.std.specs.Prelude.{◌≡◌, ℕ, ◌+◌, ◌<◌, ◌≤◌, Bool, true, false, List, [], ◌∷◌, ◌++◌, length, slice_index_or}
+use Rattle.std.specs.Prelude.{◌≡◌, ◌⊎◌, ◌==◌, if◌then◌else◌, ℕ, ◌+◌, ◌<◌, ◌≤◌, Bool, true, false, List, [], ◌∷◌, ◌++◌, length, slice_index_or}
 use Rattle.std.specs.List.{AllByRecursion, filter}
 use Rattle.pb_frame.specs.Stations.{Sighting, is_fresh, standing}
 use Rattle.pb_lan.specs.Shapes.{states_after}
@@ -17,7 +17,9 @@ use Rattle.pb_lan.specs.declared.step.Outcome.{Outcome}
 use Rattle.pb_lan.specs.declared.step.Step.{Step}
 use Rattle.pb_lan.specs.declared.step.Step.TheVariants.{Receive}
 use Rattle.pb_relay.specs.Classes.{by_class}
-use Rattle.pb_lan.specs.Queues.{capacity_of}
+use Rattle.pb_lan.specs.Queues.{capacity_of, is_own}
+use Rattle.pb_lan.specs.declared.plan.Queues.{Queues}
+use Rattle.pb_lan.specs.declared.plan.Queues.TheVariants.{PerPort, PerClass}
 
 -- what callers see of a bridge: the plan, its number there, its steps, whether each is kept in memory, and whether a
 -- step is reserved
@@ -28,9 +30,18 @@ pub record BridgeView : Type 0 where
   pub is_kept : Bool
   pub is_reserved : Bool
 
--- the class of each waiting item is 0 to 7
+-- the waiting item is in a traffic class, or is a BPDU of the bridge in the place of its own
+abbrev pub IsClassed : Waiting → Type 0
+IsClassed w = (w.class < 8) ⊎ (is_own w ≡ true)
+
+-- each waiting item is
 abbrev pub AreClassed : List Waiting → Type 0
-AreClassed ws = AllByRecursion (λ w. w.class < 8) ws
+AreClassed ws = AllByRecursion IsClassed ws
+
+-- at most this many items wait, of all classes together, or of each traffic class and at most one BPDU of the bridge
+abbrev pub AreWithin : Queues → ℕ → List Waiting → Type 0
+AreWithin PerPort most ws = length ws ≤ most
+AreWithin PerClass most ws = (class : ℕ) → length (filter (λ w. w.class == class) ws) ≤ (if class == 8 then 1 else most)
 
 -- the steps are lawful, and the states, the queues, the clock and the learning table are those that the steps determine
 pub record IsStanding (plan : Plan) (number : ℕ) (steps : List Step) (states : List PortState) (queues : List (List (List Item))) (now : ℕ) (table : List Sighting) : Type 0 where
@@ -39,7 +50,7 @@ pub record IsStanding (plan : Plan) (number : ℕ) (steps : List Step) (states :
   pub count : length queues ≡ 16
   pub kept_queues : (r : ℕ) → r < 16 → slice_index_or queues r [] ≡ by_class (waiting plan number (r + 1) steps)
   pub classes : (r : ℕ) → AreClassed (waiting plan number r steps)
-  pub within : (r : ℕ) → length (waiting plan number r steps) ≤ capacity_of plan number
+  pub within : (r : ℕ) → AreWithin plan.queues (capacity_of plan number) (waiting plan number r steps)
   pub clock : now ≡ now_after steps
   pub stations : filter (is_fresh plan.ageing now) table ≡ standing plan.ageing now (news_of plan number steps)
 

@@ -1,30 +1,46 @@
 //! The queues at the local ports of a bridge.
 
 ghost use Rattle.std.specs.Option.{option_copied};
-ghost use Rattle.std.specs.Prelude.{◌≡◌, ◌<◌, ◌≤◌, length, IfOk, OnOk, OnErr, replicate};
-ghost use Rattle.pb_relay.specs.Classes.{no_items, number_in, put_in, first_out, after_first};
+ghost use Rattle.std.specs.Prelude.{◌≡◌, ◌<◌, ◌≤◌, [], length, IfOk, OnOk, OnErr, replicate, slice_index_or, None};
+ghost use Rattle.pb_lan.specs.Queues.{own_class};
+ghost use Rattle.pb_lan.specs.declared.plan.Queues.TheVariants.{PerClass};
+ghost use Rattle.pb_relay.specs.Bpdus.{word_of};
+ghost use Rattle.pb_relay.specs.Classes.{no_items, number_in, put_in, placed, put_alone, first_out, after_first};
 ghost use Rattle.pb_relay.specs.Copies.{item_with};
 ghost use Rattle.pb_relay.specs.Departures.{departure};
-ghost use Rattle.pb_relay.specs.Backlogs.{at_place, with_port, is_full_at, HasEnqueued, empty_backlog, word_for};
+ghost use Rattle.pb_relay.specs.Backlogs.{at_place, with_port, is_full_at, older_in, HasEnqueued, empty_backlog};
+ghost use Rattle.pb_relay.specs.Backlogs.{word_for};
 
 use crate::departure::Departure;
 use crate::queues::PortQueues;
 use bytes::Bytes;
 use pb_frame::Memory;
-use pb_lan::{Item, Mark, NoRoom};
+use pb_lan::{Item, Mark, NoRoom, Queues};
 use std::alloc::Global;
 use std::marker::Model;
+
+/// The highest traffic class (IEEE 802.1Q clause 6.9.4).
+const HIGHEST: u8 = 7;
+
+/// How many items may wait at a port.
+#[derive(Clone, Copy)]
+pub struct Capacity {
+    /// What the number counts.
+    pub queues: Queues,
+    /// The most items, at most 4,096.
+    pub most: usize,
+}
 
 /// The queues at the local ports of a bridge.
 ///
 /// If the bridge keeps its steps, each item is queued twice. The Transmit step then needs no allocation when the item
-/// leaves. Contracts see the items at each port, the most items that wait at one, and whether each is queued twice.
+/// leaves. Contracts see the items at each port, how many of them may wait, and whether each is queued twice.
 #[derive(Drop)]
 pub struct Backlog {
     queues: Vec<PortQueues>,
     /// The copies of all items, with as many queues, if steps are kept, and no queues otherwise.
     copies: Vec<PortQueues>,
-    capacity: usize,
+    capacity: Capacity,
     is_kept: bool,
 }
 
@@ -36,7 +52,7 @@ impl Model for Backlog {
 
     ghost view = { λ o. record { ports = o.queues.items; capacity = o.capacity; is_kept = o.is_kept } };
 
-    ghost invariant = { λ o. (o.capacity ≤ 4096) × (o.is_kept ≡ true → o.copies.items ≡ o.queues.items) };
+    ghost invariant = { λ o. (o.capacity.most ≤ 4096) × (o.is_kept ≡ true → o.copies.items ≡ o.queues.items) };
 }
 
 impl Backlog {
@@ -45,8 +61,8 @@ impl Backlog {
     /// # Errors
     ///
     /// `Memory` if an allocation failed.
-    pub fn new(alloc: Global, capacity: usize, is_kept: bool) -> Result<Backlog, Memory>
-        requires { capacity ≤ 4096 }
+    pub fn new(alloc: Global, capacity: Capacity, is_kept: bool) -> Result<Backlog, Memory>
+        requires { capacity.most ≤ 4096 }
         ensures { IfOk result (λ backlog. backlog ≡ empty_backlog capacity is_kept) }
     {
         let queues = empty_queues(alloc)?;
@@ -72,13 +88,29 @@ impl Backlog {
         self.queues[place].len()
     }
 
-    /// Checks whether the queue of a port is full.
+    /// Checks whether the queue of a port is full for items of a traffic class.
     #[inline(always)]
-    pub fn is_full(&self, place: usize) -> bool
-        requires { place < length self.now.ports }
-        ensures { result ≡ is_full_at self.now place }
+    pub fn is_full(&self, place: usize, class: u8) -> bool
+        requires place { place < length self.now.ports }
+        requires class { class < 8 }
+        ensures { result ≡ is_full_at self.now place class }
     {
-        self.waiting(place) >= self.capacity
+        let counted = match self.capacity.queues {
+            Queues::PerPort => self.queues[place].len(),
+            Queues::PerClass => self.queues[place].len_of(class),
+        };
+        counted >= self.capacity.most
+    }
+
+    /// Checks whether the queue of a port is full for the bridge's own BPDUs. The place of their own is never full.
+    pub fn is_full_for_own(&self, place: usize) -> bool
+        requires { place < length self.now.ports }
+        ensures { result ≡ is_full_at self.now place (own_class self.now.capacity.queues) }
+    {
+        match self.capacity.queues {
+            Queues::PerPort => self.is_full(place, HIGHEST),
+            Queues::PerClass => false,
+        }
     }
 
     /// Returns the item that leaves a port next, or None if nothing waits.
@@ -90,7 +122,7 @@ impl Backlog {
         queues.first()
     }
 
-    /// Queues an item of these parts at a port.
+    /// Queues an item of these parts at a port, in a traffic class.
     ///
     /// Returns None if it is queued, and the cause if the queue is full or an allocation failed. The queues are
     /// unchanged then.
@@ -105,9 +137,10 @@ impl Backlog {
     ) -> Option<NoRoom>
         requires place { place < length self.old.ports }
         requires class { class < 8 }
-        ensures { HasEnqueued self.old place class (item_with mark hops wire.now) result self.new }
+        ensures { HasEnqueued self.old place (is_full_at self.old place class)
+            (put_in class (item_with mark hops wire.now) (at_place self.old place)) result self.new }
     {
-        if self.is_full(place) {
+        if self.is_full(place, class) {
             return Some(NoRoom::Full);
         }
         let Ok(item) = item_of(mark, hops, wire) else {
@@ -119,6 +152,45 @@ impl Backlog {
             return word_for(push_twice(queues, copies, class, item));
         }
         word_for(queues.push(class, item))
+    }
+
+    /// Queues a BPDU of the bridge at a port: in the highest traffic class, or in a place of its own.
+    ///
+    /// Returns the older BPDU whose place it takes, if there is one. Returns the cause if the queue is full or an
+    /// allocation failed. The queues are unchanged then.
+    pub fn enqueue_own(&mut self, place: usize, wire: &Bytes) -> Result<Option<Item>, NoRoom>
+        requires { place < length self.old.ports }
+        ensures queued { HasEnqueued self.old place (is_full_at self.old place (own_class self.old.capacity.queues))
+            (placed (own_class self.old.capacity.queues) (item_with None 0 wire.now) (at_place self.old place))
+            (word_of result) self.new }
+        ensures older { IfOk result (λ older. older ≡ older_in self.old.capacity.queues (at_place self.old place)) }
+    {
+        match self.capacity.queues {
+            Queues::PerPort => match self.enqueue(place, HIGHEST, None, 0, wire) {
+                Some(word) => Err(word),
+                None => Ok(None),
+            },
+            Queues::PerClass => match self.replace_own(place, wire) {
+                Ok(older) => Ok(older),
+                Err(_) => Err(NoRoom::Memory),
+            },
+        }
+    }
+
+    /// Queues a BPDU of the bridge in the place of its own, and returns the older one that waited there.
+    fn replace_own(&mut self, place: usize, wire: &Bytes) -> Result<Option<Item>, Memory>
+        requires { place < length self.old.ports }
+        ensures queued { OnOk result (self.new ≡ with_port self.old place
+            (put_alone (item_with None 0 wire.now) (at_place self.old place))) }
+        ensures err { OnErr result (self.new ≡ self.old) }
+        ensures older { IfOk result (λ older. older ≡ older_in PerClass (at_place self.old place)) }
+    {
+        let item = item_of(None, 0, wire)?;
+        if self.is_kept {
+            let copy = item_of(None, 0, wire)?;
+            let _ = self.copies[place].replace_own(copy);
+        }
+        Ok(self.queues[place].replace_own(item))
     }
 
     /// Takes the item that leaves a port next, and its copy if steps are kept. Returns None if nothing waits. Allocates
@@ -168,7 +240,7 @@ fn push_twice(
     item: Item,
 ) -> Result<(), Memory>
     requires class { class < 8 }
-    requires room { number_in queues.old < 65536 }
+    requires room { length (slice_index_or queues.old class []) < 4096 }
     requires copies { copies.old ≡ queues.old }
     ensures ok { OnOk result (queues.new ≡ put_in class item queues.old) }
     ensures err { OnErr result (queues.new ≡ queues.old) }

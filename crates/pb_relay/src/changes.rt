@@ -147,6 +147,7 @@ pub(crate) fn nothing_moved(alloc: Global) -> Moved
         states: Seq::from_vec(Vec::new(alloc)),
         flushed: Seq::from_vec(Vec::new(alloc)),
         queued: Seq::from_vec(Vec::new(alloc)),
+        replaced: Seq::from_vec(Vec::new(alloc)),
         dropped: Seq::from_vec(Vec::new(alloc)),
     }
 }
@@ -165,6 +166,7 @@ fn moved_to(
         states: Seq::from_vec(change(alloc, port, old, new)?),
         flushed: Seq::from_vec(flushed(alloc, port, up)?),
         queued: Seq::from_vec(Vec::new(alloc)),
+        replaced: Seq::from_vec(Vec::new(alloc)),
         dropped: Seq::from_vec(Vec::new(alloc)),
     })
 }

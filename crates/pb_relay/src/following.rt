@@ -1,6 +1,7 @@
 //! How a bridge applies the changes of its spanning tree.
 
 ghost use Rattle.std.specs.Prelude.{◌≡◌, ◌≤◌, [], length, vec_capacity};
+ghost use Rattle.pb_lan.specs.declared.plan.Queues.TheVariants.{PerClass};
 ghost use Rattle.std.specs.List.{AllByRecursion};
 ghost use Rattle.pb_relay.specs.Following.{IsOfPorts, HasFollowed};
 ghost use Rattle.pb_relay.specs.Moves.{all_flushed, states_changed};
@@ -41,8 +42,10 @@ pub fn follow(
 ) -> Moved
     requires backlog { length forwarding.old.backlog.ports ≡ 16 }
     requires queued { room.queued.items ≡ [] }
+    requires replaced { room.replaced.items ≡ [] }
     requires dropped { room.dropped.items ≡ [] }
     requires queued_room { 16 ≤ vec_capacity room.queued }
+    requires replaced_room { forwarding.old.backlog.capacity.queues ≡ PerClass → 16 ≤ vec_capacity room.replaced }
     requires dropped_room { 16 ≤ vec_capacity room.dropped }
     requires change { IsOfPorts address.0 change }
     ensures { HasFollowed address.0 change forwarding.old result forwarding.new }
@@ -58,12 +61,14 @@ pub fn follow(
     let BpduRoom {
         alloc: _,
         queued,
+        replaced,
         dropped,
     } = room;
     Moved {
         states,
         flushed: flush,
         queued: Seq::from_vec(queued),
+        replaced: Seq::from_vec(replaced),
         dropped: Seq::from_vec(dropped),
     }
 }

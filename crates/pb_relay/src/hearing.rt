@@ -28,7 +28,7 @@ impl Bridge {
         let Ok(told) = Held::new(self.alloc, nothing_moved(self.alloc)) else {
             return self.give_up(port, item);
         };
-        let Ok(room) = BpduRoom::new(self.alloc) else {
+        let Ok(room) = BpduRoom::new(self.alloc, self.plan.queues) else {
             return self.give_up(port, item);
         };
         let Ok(heard) = hear(self.alloc, &mut self.rstp, port, item.wire.as_slice()) else {

@@ -37,7 +37,7 @@ impl Bridge {
         ensures ok { OnOk result (HasTicked self.old self.new) }
         ensures err { OnErr result (self.new ≡ self.old) }
     {
-        let room = BpduRoom::new(self.alloc)?;
+        let room = BpduRoom::new(self.alloc, self.plan.queues)?;
         let Some(change) = tick(&mut self.rstp)? else {
             unreachable!();
         };
@@ -79,7 +79,7 @@ impl Bridge {
         ensures ok { OnOk result (HasSet self.old port up self.new) }
         ensures err { OnErr result (self.new ≡ self.old) }
     {
-        let room = BpduRoom::new(self.alloc)?;
+        let room = BpduRoom::new(self.alloc, self.plan.queues)?;
         let Some(change) = admin(&mut self.rstp, port, up)? else {
             unreachable!();
         };

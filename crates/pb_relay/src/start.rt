@@ -6,19 +6,18 @@ ghost use Rattle.std.specs.Option.{option_copied};
 ghost use Rattle.pb_frame.specs.Lists.{first};
 ghost use Rattle.pb_lan.specs.Plans.{IsSound, IsNumber};
 ghost use Rattle.pb_lan.specs.Ports.{port_at, is_customer_at, is_end_at, ends_of};
-ghost use Rattle.pb_lan.specs.Queues.{capacity_of};
 ghost use Rattle.pb_lan.specs.Shapes.{start_by};
 ghost use Rattle.pb_svlan.specs.ServiceTables.{is_known, are_known, has_name, has_vid, is_taken, kind_at, attached};
 ghost use Rattle.pb_svlan.specs.ServiceTables.{carried};
 ghost use Rattle.pb_svlan.specs.declared.port.PortKind.TheVariants.{Trunk};
 ghost use Rattle.pb_relay.specs.LocalPorts.{IsKept};
 ghost use Rattle.pb_relay.specs.Machines.{machine_in};
-ghost use Rattle.pb_relay.specs.Backlogs.{empty_backlog};
+ghost use Rattle.pb_relay.specs.Backlogs.{capacity_in, empty_backlog};
 ghost use Rattle.pb_relay.specs.PortKinds.{local_as, told};
 ghost use Rattle.pb_relay.specs.Standing.{at_start};
 ghost use Rattle.pb_relay.specs.Starts.{first_state, HasJoined, HasServices, KeepsPorts};
 
-use crate::backlog::Backlog;
+use crate::backlog::{Backlog, Capacity};
 use crate::bridge::Bridge;
 use crate::forwarding::Forwarding;
 use crate::machine::{address, machine};
@@ -198,12 +197,15 @@ fn start_states(spanning: Spanning, ports: &LocalPorts) -> [PortState; 16]
     states
 }
 
-/// Returns the most items that wait at each port of the bridge.
-fn capacity(plan: &Plan, number: u8) -> usize
+/// Returns how many items may wait at each port of the bridge.
+fn capacity(plan: &Plan, number: u8) -> Capacity
     requires { IsNumber number (length plan.now.bridges) }
-    ensures { result ≡ capacity_of plan.now number }
+    ensures { result ≡ capacity_in plan.now number }
 {
-    plan.bridges.as_slice()[index_of(number)].queue as usize
+    Capacity {
+        queues: plan.queues,
+        most: plan.bridges.as_slice()[index_of(number)].queue as usize,
+    }
 }
 
 /// Returns a copy of the plan, and the kinds and services of the local ports.
@@ -225,7 +227,7 @@ fn sending(
 ) -> Result<(Backlog, Option<Rstp>), Memory>
     requires sound { IsSound plan.now }
     requires bridge { IsNumber number (length plan.now.bridges) }
-    ensures backlog { IfOk result (λ kept. kept.0 ≡ empty_backlog (capacity_of plan.now number) is_kept) }
+    ensures backlog { IfOk result (λ kept. kept.0 ≡ empty_backlog (capacity_in plan.now number) is_kept) }
     ensures machine { IfOk result (λ kept. kept.1 ≡ machine_in plan.now number []) }
 {
     let rstp = machine(alloc, plan, number)?;

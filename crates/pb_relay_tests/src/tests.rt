@@ -1,6 +1,7 @@
 //! Runs of one bridge, by tables.
 
 mod bpdus;
+mod by_class;
 mod classes;
 mod frames;
 mod harness;

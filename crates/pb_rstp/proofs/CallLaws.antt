@@ -1,4 +1,4 @@
--- The steps of a call, put together, are the call.
+-- The code of each call computes what its definition says.
 use Rattle.std.proofs.Common.{◌≡◌, ℕ, Bool, true, false, List, Some, None, Ok, Err, ap, sym, ◌∙◌, if◌then◌else◌}
 use Rattle.std.specs.declared.option.Option.{Option}
 use Rattle.std.specs.declared.result.Result.{Result}
@@ -21,7 +21,7 @@ use Rattle.pb_rstp.specs.declared.moving.Moving.{Moving}
 use Rattle.pb_rstp.specs.declared.port.Port.{Port}
 use Rattle.pb_rstp.specs.declared.vector.Vector.{Vector}
 
--- an enabled port receives a BPDU
+-- what the code of `hear` computes is what the definitions say of a received BPDU
 pub hears : (old now : Machine) (port : ℕ) (m : Bpdu) (p : Port) (heard : Heard) (root : Vector) (ports : List Moving)
     → old ≡ now → port_of old.ports port ≡ Some p → p.port_enabled ≡ true → heard ≡ heard_at m p
     → root ≡ root_vector old.id old.ports
@@ -36,7 +36,7 @@ hears old now port m p heard root ports same found enabled h r e =
     ∙ ap (λ b. if b then hear_at now m p else unchanged now) (sym enabled)
     ∙ ap (λ o. hear_by now m o) (sym (ap (λ (x : Machine). port_of x.ports port) (sym same) ∙ found))
 
--- a second passes
+-- what the code of `tick` computes is what the definitions say of a second
 pub ticks : (old now : Machine) (fwd_delay : ℕ) (hello : Bool) (hello_when : ℕ) (ports : List Moving)
     → old ≡ now → fwd_delay ≡ fwd_delay_of old.ports → hello ≡ is_hello_tick old → hello_when ≡ hello_when_after old
     → ports ≡ moved_by (ticking fwd_delay hello) old.ports
@@ -49,7 +49,7 @@ ticks old now fwd_delay hello hello_when ports same d h l e =
     ∙ ap (λ (x : Machine). settle now.prompt now.id (hello_when_after x) None
     (moved_by (ticking (fwd_delay_of x.ports) (is_hello_tick x)) x.ports)) same
 
--- a port is set otherwise than it was
+-- what the code of `admin` computes is what the definitions say of a port that is enabled or disabled
 pub sets : (old now : Machine) (port : ℕ) (up : Bool) (p : Port) (ports : List Moving)
     → old ≡ now → port_of old.ports port ≡ Some p → is_same_setting p.port_enabled up ≡ false
     → ports ≡ moved_by (setting port up) old.ports
@@ -60,7 +60,7 @@ sets old now port up p ports same found other e =
     ∙ ap (λ b. if b then unchanged now else admin_at now port up) (sym other)
     ∙ ap (λ o. admin_by now port up o) (sym (ap (λ (x : Machine). port_of x.ports port) (sym same) ∙ found))
 
--- what holds of a machine as it is, and of each call that changes its ports, holds after every cause
+-- for proofs about every call: what holds without a change and after each change of the ports holds after every cause
 pub after-each : (P : After → Type 0) (machine : Machine) → P (unchanged machine)
     → ((hello_when : ℕ) (heard : Option Heard) (change : Port → Port) → ((p : Port) → IsSamePort p (change p))
     → P (settle machine.prompt machine.id hello_when heard (moved_by change machine.ports)))

@@ -1,4 +1,4 @@
--- What a call tells names each change once, and an old Root port is Discarding.
+-- A call returns each change once.
 use Rattle.std.proofs.Common.{◌≡◌, ℕ, ◌+◌, ◌≤◌, List, [], ◌∷◌, ◌++◌, Some, None, refl, sym, ap, ap₂, ◌∙◌, Bool, true}
 use Rattle.std.proofs.Common.{false, ◌==◌, if◌then◌else◌, map, arith}
 use Rattle.std.specs.declared.option.Option.{Option}
@@ -23,8 +23,9 @@ use Rattle.pb_rstp.specs.declared.moving.Moving.{Moving}
 use Rattle.pb_rstp.specs.declared.port.Port.{Port}
 use Rattle.pb_rstp.proofs.MovingLaws.{moving_settled, first-none, port_of-cons}
 
--- Each list rises.
+-- Each list goes by rising port number.
 
+-- the changed states are listed by rising port number
 rising-states : (n m : ℕ) → m ≤ n → (ps : List Port) (ms : List Moving) → AreMoving ps ms
     → AreRising n (map (λ p. p.number) ps)
     → AreRising m (map (λ s. s.0) (state_changes ms))
@@ -42,6 +43,7 @@ rising-states n m below (p ∷ ps) (x ∷ xs) h r =
         (map (λ s. s.0) (state_changes xs)) take
 rising-states n m below _ _ h r = absurd h
 
+-- the ports that pass a test are listed by rising port number: used for the flushed ports
 rising-filter : (test : Moving → Bool) (n m : ℕ) → m ≤ n → (ps : List Port) (ms : List Moving) → AreMoving ps ms
     → AreRising n (map (λ p. p.number) ps)
     → AreRising m (map (λ x. x.now.number) (filter test ms))
@@ -59,10 +61,11 @@ rising-filter test n m below (p ∷ ps) (x ∷ xs) h r =
     by_test false skip take = skip
 rising-filter test n m below _ _ h r = absurd h
 
--- the ports that send
+-- the numbers of the ports that send
 abbrev sent_numbers : ℕ → List Port → List Port → List ℕ
 sent_numbers id all ps = map (λ (s : ℕ × Bpdu). s.0) (map (λ (p : Port). (p.number, message_of id all p)) ps)
 
+-- the BPDUs are listed by rising port number
 rising-sent : (id : ℕ) (all : List Port) (n m : ℕ) → m ≤ n → (ps : List Port) (ms : List Moving) → AreMoving ps ms
     → AreRising n (map (λ p. p.number) ps)
     → AreRising m (sent_numbers id all (filter is_sending (nows ms)))
@@ -82,8 +85,9 @@ rising-sent id all n m below (p ∷ ps) (x ∷ xs) h r =
     by_test false skip take = skip
 rising-sent id all n m below _ _ h r = absurd h
 
--- What is told of a port.
+-- The change of one port.
 
+-- the state that a list of changes names for a port, by the list's first entry
 told-cons : (k n : ℕ) (a b : PortState) (rest : List (ℕ × PortState)) (s t : Bool) → is_same a b ≡ s → (n == k) ≡ t
     → told_state (from_to n a b ++ rest) k
     ≡ (if s then told_state rest k else (if t then Some b else told_state rest k))
@@ -95,14 +99,17 @@ told-cons k n a b rest false false es et =
     ap (λ u. told_state ((if u then [] else ((n, b) ∷ [])) ++ rest) k) es
     ∙ ap (λ u. option_map (λ (c : ℕ × PortState). c.1) (if u then Some (n, b) else first (λ c. c.0 == k) rest)) et
 
+-- the state of a port in a list, by the list's first port
 state_of-cons : (k : ℕ) (p : Port) (ps : List Port) (t : Bool) → (p.number == k) ≡ t
     → state_of (p ∷ ps) k ≡ (if t then Some p.state else state_of ps k)
 state_of-cons k p ps true e = ap (λ o. option_map (λ (q : Port). q.state) o) (port_of-cons k p ps true e)
 state_of-cons k p ps false e = ap (λ o. option_map (λ (q : Port). q.state) o) (port_of-cons k p ps false e)
 
+-- the new state of a port that is there before and after
 new-some : (a b : PortState) (s : Bool) → is_same a b ≡ s → new_state (Some a) (Some b) ≡ (if s then None else Some b)
 new-some a b s e = ap (λ u. if u then None else Some b) e
 
+-- the list of changes names the new state of each port whose state differs, and no other
 told : (k n : ℕ) (ps : List Port) (ms : List Moving) → AreMoving ps ms → AreRising n (map (λ p. p.number) ps)
     → told_state (state_changes ms) k ≡ new_state (state_of ps k) (state_of (nows ms) k)
 told k n [] [] h r = refl
@@ -143,7 +150,7 @@ told k n (p ∷ ps) (x ∷ xs) h r =
         ∙ sym (ap₂ new_state (state_of-cons k p ps false (number ∙ et)) (state_of-cons k x.now (nows xs) false et))
 told k n _ _ h r = absurd h
 
--- a BPDU that is sent changes no state
+-- sending a BPDU changes no port's state
 state_sent : (k : ℕ) (ms : List Moving) → state_of (nows (with_sent ms)) k ≡ state_of (nows ms) k
 state_sent k [] = refl
 state_sent k (x ∷ xs) = by_test (is_sending x.now) refl (state_sent k xs)
@@ -183,6 +190,7 @@ state_sent k (x ∷ xs) = by_test (is_sending x.now) refl (state_sent k xs)
         by_number false et = state_of-cons k x.now (nows (with_sent xs)) false et ∙ rest
             ∙ sym (state_of-cons k x.now (nows xs) false et)
 
+-- every call returns each change once
 pub settle_named : (prompt : Bool) (id hello_when hello_when_now : ℕ) (heard : Option Heard) (ps : List Port)
     (ms : List Moving) → AreMoving ps ms
     → AreRising 0 (map (λ p. p.number) ps)
@@ -198,8 +206,9 @@ settle_named prompt id hello_when hello_when_now heard ps ms h r =
       send_rises = rising-sent id (nows all) 0 0 (omega arith) ps all moving r;
     }
 
--- Changes that are told, one after another, lead from the states before to the states after.
+-- The changes, applied one after another, lead from the states before to the states after.
 
+-- a list that does not name a port leaves its state
 changed-none : (k : ℕ) (s : PortState) (changes : List (ℕ × PortState)) → told_state changes k ≡ None
     → changed k s changes ≡ s
 changed-none k s [] none = refl
@@ -215,6 +224,7 @@ changed-none k s (c ∷ cs) none = by_test (c.0 == k) refl (changed-none k s cs)
         ∙ rest (ap (λ b. option_map (λ (d : ℕ × PortState). d.1) (if b then Some c else first (λ d. d.0 == k) cs))
         (sym t) ∙ none)
 
+-- a list that names a new state for a port leads to that state
 changed-some : (k n : ℕ) (s new : PortState) (changes : List (ℕ × PortState)) → AreRising n (map (λ c. c.0) changes)
     → told_state changes k ≡ Some new → changed k s changes ≡ new
 changed-some k n s new [] r some = cc
@@ -236,6 +246,7 @@ changed-some k n s new (c ∷ cs) r some = by_test (c.0 == k) refl (changed-some
         ∙ rest (ap (λ b. option_map (λ (d : ℕ × PortState). d.1) (if b then Some c else first (λ d. d.0 == k) cs))
         (sym t) ∙ some)
 
+-- applying the changes that a call returns leads from the states before to those after
 pub changes_lead_on : ChangesLeadOn
 changes_lead_on before after change names number was is stood stands = by_test (is_same was.state is.state) refl
   where

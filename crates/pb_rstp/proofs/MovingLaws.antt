@@ -1,4 +1,4 @@
--- The steps of a call keep the ports.
+-- A call keeps its ports' numbers, path costs and priorities.
 use Rattle.std.proofs.Common.{◌≡◌, ℕ, ◌≤◌, List, [], ◌∷◌, Some, None, refl, sym, ap, ◌∙◌, subst, Bool, true, false}
 use Rattle.std.proofs.Common.{is_some, nat_lt, ◌-◌, ◌==◌, ◌&&◌, not, if◌then◌else◌, map, arith}
 use Rattle.std.specs.declared.option.Option.{Option}
@@ -32,9 +32,11 @@ use Rattle.pb_rstp.specs.declared.vector.Vector.{Vector}
 use Rattle.pb_rstp.proofs.RoleLaws.{Keeps, keeps-agreement, keeps-state, keeps-synced, keeps-agreeing, keeps-tc_while}
 use Rattle.pb_rstp.proofs.RoleLaws.{keeps-sending, keeps-update}
 
+-- a port is the same as itself
 pub is_same_port : (p : Port) → IsSamePort p p
 is_same_port p = record { number = refl; cost = refl; priority = refl }
 
+-- two changes that keep a port, one after the other, keep it
 pub same_port-trans : (p q r : Port) → IsSamePort p q → IsSamePort q r → IsSamePort p r
 same_port-trans p q r h k = record {
   number = k.number ∙ h.number;
@@ -42,19 +44,23 @@ same_port-trans p q r h k = record {
   priority = k.priority ∙ h.priority;
 }
 
+-- of two changes that keep a port, either choice keeps it
 pub same_port-if : (b : Bool) (p q r : Port) → IsSamePort p q → IsSamePort p r → IsSamePort p (if b then q else r)
 same_port-if true p q r hq hr = hq
 same_port-if false p q r hq hr = hr
 
+-- a change that keeps what roles depend on keeps the port
 of_keeps : (p q : Port) → Keeps p q → IsSamePort p q
 of_keeps p q k = record { number = k.seen.number; cost = k.seen.cost; priority = k.seen.priority }
 
+-- ports are the same as themselves
 pub same_ports : (ps : List Port) → AreSamePorts ps ps
 same_ports [] = tt
 same_ports (p ∷ ps) = (is_same_port p, same_ports ps)
 
--- Ports in the course of a call.
+-- Ports during a call.
 
+-- a change that keeps each port keeps the ports of a call
 pub moving-each : (f : Port → Port → Port) → ((was now : Port) → IsSamePort now (f was now))
     → (ps : List Port) (ms : List Moving)
     → AreMoving ps ms → AreMoving ps (each f ms)
@@ -63,33 +69,39 @@ moving-each f same (p ∷ ps) (m ∷ ms) h =
     ((h.0.0, same_port-trans p m.now (f m.was m.now) h.0.1 (same m.was m.now)), moving-each f same ps ms h.1)
 moving-each f same _ _ h = absurd h
 
+-- of two lists that keep the ports, either choice keeps them
 moving-if : (b : Bool) (ps : List Port) (ms ns : List Moving) → AreMoving ps ms → AreMoving ps ns
     → AreMoving ps (if b then ms else ns)
 moving-if true ps ms ns hm hn = hm
 moving-if false ps ms ns hm hn = hn
 
+-- a call's own change keeps the ports
 pub moving_by : (change : Port → Port) → ((p : Port) → IsSamePort p (change p)) → (ps : List Port)
     → AreMoving ps (moved_by change ps)
 moving_by change same [] = tt
 moving_by change same (p ∷ ps) = ((refl, same p), moving_by change same ps)
 
+-- the ports of a call are the same as before it
 pub moving_now : (ps : List Port) (ms : List Moving) → AreMoving ps ms → AreSamePorts ps (nows ms)
 moving_now [] [] h = tt
 moving_now (p ∷ ps) (m ∷ ms) h = (h.0.1, moving_now ps ms h.1)
 moving_now _ _ h = absurd h
 
+-- a call keeps its ports as they were before it
 pub moving_before : (ps : List Port) (ms : List Moving) → AreMoving ps ms → befores ms ≡ ps
 moving_before [] [] h = refl
 moving_before (p ∷ ps) (m ∷ ms) h = let tail = moving_before ps ms h.1 in let head = h.0.0 in cc
 moving_before _ _ h = absurd h
 
--- Each step.
+-- Each stage.
 
+-- stage 1 keeps the ports
 pub moving_first : (id : ℕ) (ps : List Port) (ms : List Moving) → AreMoving ps ms → AreMoving ps (with_roles id ms)
 moving_first id ps ms h =
     moving-each (with_role id (root_vector id (nows ms)))
     (λ was now. record { number = refl; cost = refl; priority = refl }) ps ms h
 
+-- stage 2 keeps the ports
 pub moving_second : (id : ℕ) (ps : List Port) (ms : List Moving) → AreMoving ps ms
     → AreMoving ps (with_agreements id ms)
 moving_second id ps ms h =
@@ -97,6 +109,7 @@ moving_second id ps ms h =
     (each without_agreement ms) h
     (moving-each without_agreement (λ was now. of_keeps now _ (keeps-agreement was now)) ps ms h)
 
+-- stage 3 keeps the ports
 pub moving_third : (ps : List Port) (ms : List Moving) → AreMoving ps ms → AreMoving ps (with_infos ms)
 moving_third ps ms h =
     moving-each without_info
@@ -105,15 +118,18 @@ moving_third ps ms h =
     now
     (record { number = refl; cost = refl; priority = refl }) (is_same_port now)) ps ms h
 
+-- stage 4 keeps the ports
 pub moving_fourth : (ps : List Port) (ms : List Moving) → AreMoving ps ms → AreMoving ps (with_states ms)
 moving_fourth ps ms h =
     moving-each (with_state (fwd_delay_of (nows ms)))
     (λ was now. of_keeps now _ (keeps-state (fwd_delay_of (nows ms)) was now)) ps ms h
 
+-- stages 1 to 4 keep the ports
 pub moving_in_line : (id : ℕ) (ps : List Port) (ms : List Moving) → AreMoving ps ms → AreMoving ps (in_line id ms)
 moving_in_line id ps ms h =
     moving_fourth ps _ (moving_third ps _ (moving_second id ps (with_roles id ms) (moving_first id ps ms h)))
 
+-- stage 5 keeps the ports
 pub moving_fifth : (heard : Option Heard) (ps : List Port) (ms : List Moving) → AreMoving ps ms
     → AreMoving ps (with_proposal heard ms)
 moving_fifth None ps ms h = h
@@ -125,11 +141,13 @@ moving_fifth (Some heard) ps ms h =
     (λ was now. of_keeps now _ (keeps-synced (fwd_delay_of (nows ms)) was now))
     ps ms h) h)) h
 
+-- stage 6 keeps the ports
 pub moving_sixth : (heard : Option Heard) (ps : List Port) (ms : List Moving) → AreMoving ps ms
     → AreMoving ps (with_topology heard ms)
 moving_sixth heard ps ms h =
     moving-each (with_tc_while heard ms) (λ was now. of_keeps now _ (keeps-tc_while heard ms was now)) ps ms h
 
+-- stage 7 keeps the ports
 pub moving_seventh : (prompt : Bool) (id : ℕ) (ps : List Port) (ms : List Moving) → AreMoving ps ms
     → AreMoving ps (with_updates prompt id ms)
 moving_seventh prompt id ps ms h =
@@ -139,6 +157,7 @@ moving_seventh prompt id ps ms h =
     (moving-each (with_update id before after) (λ was now. of_keeps now _ (keeps-update id before after was now)) ps ms
     h) h
 
+-- stages 1 to 7 keep the ports
 pub moving_settled : (prompt : Bool) (id : ℕ) (heard : Option Heard) (ps : List Port) (ms : List Moving)
     → AreMoving ps ms → AreMoving ps (settled prompt id heard ms)
 moving_settled prompt id heard ps ms h =
@@ -146,11 +165,13 @@ moving_settled prompt id heard ps ms h =
     (moving_sixth heard ps (with_proposal heard (in_line id ms))
     (moving_fifth heard ps (in_line id ms) (moving_in_line id ps ms h)))
 
+-- stage 8 keeps the ports
 pub moving_sent : (ps : List Port) (ms : List Moving) → AreMoving ps ms → AreMoving ps (with_sent ms)
 moving_sent ps ms h = moving-each after_sending (λ was now. of_keeps now _ (keeps-sending was now)) ps ms h
 
--- Numbers.
+-- Port numbers.
 
+-- ports that are the same have rising numbers too
 pub rising-same : (n m : ℕ) → m ≡ n → (ps qs : List Port) → AreSamePorts ps qs → AreRising n (map (λ p. p.number) ps)
     → AreRising m (map (λ p. p.number) qs)
 rising-same n m e [] [] h r = (tt, tt)
@@ -159,7 +180,7 @@ rising-same n m e (p ∷ ps) (q ∷ qs) h r =
     (rising-same p.number q.number h.0.number ps qs h.1 r.1)
 rising-same n m e _ _ h r = absurd h
 
--- what has a number that is no greater than n isn't among those that rise above n
+-- a number that is at most n is not found among numbers above n
 pub first-none : {X : Type 0} (key : X → ℕ) (k n : ℕ) → k ≤ n → (xs : List X) → AreRising n (map key xs)
     → first (λ x. key x == k) xs ≡ None
 first-none key k n below [] r = refl
@@ -170,11 +191,12 @@ first-none key k n below (x ∷ xs) r = by_test (key x == k) refl (first-none ke
     by_test true e rest = absurd (omega (arith, eqb-true (key x) k e, r.0.0))
     by_test false e rest = rest
 
+-- the port with a number, by the first port of a list
 pub port_of-cons : (k : ℕ) (p : Port) (ps : List Port) (t : Bool) → (p.number == k) ≡ t
     → port_of (p ∷ ps) k ≡ (if t then Some p else port_of ps k)
 port_of-cons k p ps t e = ap (λ u. if u then Some p else port_of ps k) e
 
--- what holds of each port as it was and as it is, holds of the two that a number names
+-- what holds between each port before and after a call holds between the two with one number
 pub found_pair : (P : Port → Port → Type 0) (k : ℕ) (ps : List Port) (ms : List Moving) → AreMoving ps ms
     → AllByRecursion (λ m. P m.was m.now) ms → (p q : Port) → port_of ps k ≡ Some p → port_of (nows ms) k ≡ Some q
     → P p q
@@ -197,8 +219,9 @@ found_pair P k (x ∷ xs) (m ∷ ms) h all p q ep eq =
         rest (sym (port_of-cons k x xs false (same ∙ e)) ∙ ep) (sym (port_of-cons k m.now (nows ms) false e) ∙ eq)
 found_pair _ k _ _ h all p q ep eq = absurd h
 
--- The machine after a call.
+-- The bridge after a call.
 
+-- every call leaves the bridge's identifier and its ports' numbers, path costs and priorities
 pub settle_same : (prompt : Bool) (id hello_when hello_when_now : ℕ) (heard : Option Heard) (ps : List Port)
     (ms : List Moving) → AreMoving ps ms
     → IsSameBridge (record { id = id; prompt = prompt; ports = ps; hello_when = hello_when })
@@ -211,6 +234,7 @@ settle_same prompt id hello_when hello_when_now heard ps ms h =
       ports = moving_now ps (with_sent all) (moving_sent ps all (moving_settled prompt id heard ps ms h));
     }
 
+-- after every call the ports have rising numbers
 pub settle_rising : (prompt : Bool) (id : ℕ) (heard : Option Heard) (ps : List Port) (ms : List Moving)
     → AreMoving ps ms → AreRising 0 (map (λ p. p.number) ps)
     → AreRising 0 (map (λ p. p.number) (nows (with_sent (settled prompt id heard ms))))
@@ -219,42 +243,50 @@ settle_rising prompt id heard ps ms h r =
     rising-same 0 0 refl ps (nows (with_sent all))
     (moving_now ps (with_sent all) (moving_sent ps all (moving_settled prompt id heard ps ms h))) r
 
+-- a bridge is the same as itself
 pub is_same_bridge : (m : Machine) → IsSameBridge m m
 is_same_bridge m = record { id = refl; prompt = refl; ports = same_ports m.ports }
 
--- What each call does to a port at first.
+-- Each call's own change.
 
+-- storing a BPDU keeps the port
 same_news : (m : Bpdu) (p : Port) → IsSamePort p (with_news m p)
 same_news m p =
     same_port-if (takes_place m p) p (record p { info = if is_young m then Some (info_of m) else None }) p
     (record { number = refl; cost = refl; priority = refl }) (is_same_port p)
 
+-- recording an agreement keeps the port
 same_answer : (root : Vector) (m : Bpdu) (p : Port) → IsSamePort p (with_answer root m p)
 same_answer root m p =
     same_port-if (has_agreed root m p) p (record p { agreed = true }) p
     (record { number = refl; cost = refl; priority = refl }) (is_same_port p)
 
+-- receiving a BPDU keeps the port
 pub same_hearing : (root : Vector) (port : ℕ) (m : Bpdu) (p : Port) → IsSamePort p (hearing root port m p)
 same_hearing root port m p =
     same_port-if (p.number == port) p (with_answer root m (with_news m p)) p
     (same_port-trans p (with_news m p) (with_answer root m (with_news m p)) (same_news m p)
     (same_answer root m (with_news m p))) (is_same_port p)
 
+-- entering the next state keeps the port
 same_opened_by : (fwd_delay : ℕ) (state : PortState) (p : Port) → IsSamePort p (opened_by fwd_delay state p)
 same_opened_by fwd_delay Forwarding p = is_same_port p
 same_opened_by fwd_delay _ p = record { number = refl; cost = refl; priority = refl }
 
+-- running down fdWhile keeps the port
 same_opening : (fwd_delay : ℕ) (p : Port) → IsSamePort p (with_opening fwd_delay p)
 same_opening fwd_delay p =
     same_port-if (is_designated p.role && not (is_forwarding p.state)) p (opened fwd_delay p) p
     (same_port-if (nat_lt 1 p.fd_while) p (record p { fd_while = p.fd_while - 1 }) (opened_by fwd_delay p.state p)
     (record { number = refl; cost = refl; priority = refl }) (same_opened_by fwd_delay p.state p)) (is_same_port p)
 
+-- the hello time keeps the port
 same_hello : (hello : Bool) (p : Port) → IsSamePort p (with_hello hello p)
 same_hello hello p =
     same_port-if (hello && is_hello p) p (record p { new_info = true }) p
     (record { number = refl; cost = refl; priority = refl }) (is_same_port p)
 
+-- a second keeps the port
 pub same_ticking : (fwd_delay : ℕ) (hello : Bool) (p : Port) → IsSamePort p (ticking fwd_delay hello p)
 same_ticking fwd_delay hello p =
     same_port-trans p (with_opening fwd_delay (with_timers p)) _
@@ -262,14 +294,16 @@ same_ticking fwd_delay hello p =
     (same_opening fwd_delay (with_timers p)))
     (same_hello hello (with_opening fwd_delay (with_timers p)))
 
+-- enabling or disabling keeps the port
 same_admin : (up : Bool) (p : Port) → IsSamePort p (with_admin up p)
 same_admin true p = record { number = refl; cost = refl; priority = refl }
 same_admin false p = record { number = refl; cost = refl; priority = refl }
 
+-- the same for the port with a number
 pub same_setting : (port : ℕ) (up : Bool) (p : Port) → IsSamePort p (setting port up p)
 same_setting port up p = same_port-if (p.number == port) p (with_admin up p) p (same_admin up p) (is_same_port p)
 
--- the ports in the course of a call are those of the machine
+-- the ports that a call moves are those of the bridge that its caller sees
 pub moving_of : (old now : Machine) (change : Port → Port) → ((p : Port) → IsSamePort p (change p)) → old ≡ now
     → (ms : List Moving)
     → ms ≡ moved_by change old.ports → AreMoving now.ports ms

@@ -1,4 +1,4 @@
--- What the test of settled bridges looks at.
+-- For the code that tests whether a network has converged.
 use Rattle.std.proofs.Common.{◌≡◌, ℕ, zero, suc, ◌+◌, ◌<◌, List, [], ◌∷◌, refl, sym, ap₂, subst, Bool, true, false}
 use Rattle.std.proofs.Common.{◌&&◌, ◌||◌, map, length, get_or, drop, drop-cons, add-one, arith}
 use Rattle.std.specs.List.{list_all, AllByRecursion}
@@ -10,11 +10,13 @@ use Rattle.pb_rstp.specs.Ports.{is_root_or_designated, is_discarding}
 use Rattle.pb_rstp.specs.Tree.{is_quiet}
 use Rattle.pb_rstp.specs.declared.port.Port.{Port}
 
+-- an entry with a number of a mapped list is the mapped entry
 pub numbered-map : {A B : Type 0} (f : A → B) (xs : List A) (k : ℕ)
     → numbered (map f xs) k ≡ option_map f (numbered xs k)
 numbered-map f xs zero = refl
 numbered-map f xs (suc n) = slice_get-map f xs n
 
+-- a quiet port passes the test of quiet ports
 pub quiet_test : (p : Port) → IsQuiet p → is_quiet p ≡ true
 quiet_test p h = by_test (is_root_or_designated p.role) h
   where
@@ -22,11 +24,12 @@ quiet_test p h = by_test (is_root_or_designated p.role) h
     by_test true h = refl
     by_test false h = h refl
 
+-- quiet ports all pass it
 pub quiet_tests : (ps : List Port) → AllByRecursion IsQuiet ps → list_all is_quiet ps ≡ true
 quiet_tests [] h = refl
 quiet_tests (p ∷ ps) h = ap₂ (λ a b. a && b) (quiet_test p h.0) (quiet_tests ps h.1)
 
--- what is left, after a front whose items all have P
+-- for the loop over bridges: if an entry and all later ones have a property, so do all from that entry on
 pub all-front : {A B : Type 0} (P : B → Type 0) (f : A → B) (xs : List A) (i : ℕ) (x : A) → i < length xs
     → x ≡ get_or xs i x → P (f x)
     → AllByRecursion P (map f (drop (i + 1) xs)) → AllByRecursion P (map f (drop i xs))
@@ -36,6 +39,7 @@ all-front {A} P f xs i x below is here rest =
     let rest' : Q (drop (suc i) xs) = subst (λ k. Q (drop k xs)) (add-one i) rest in
     subst Q (sym (drop-cons xs i x below)) (subst R is here, rest')
 
+-- for the loop over bridges: an entry of a list whose entries all have a property has it
 pub all-item : {A B : Type 0} (P : B → Type 0) (f : A → B) (xs : List A) (i : ℕ) (x : A) → i < length xs
     → x ≡ get_or xs i x
     → AllByRecursion P (map f xs) → P (f x)

@@ -28,16 +28,18 @@ use Rattle.pb_rstp.proofs.RoleLaws.{roles-first}
 use Rattle.pb_rstp.proofs.RootLaws.{root_vector-is}
 use Rattle.pb_rstp.proofs.SettledLaws.{root_is}
 
+-- a change that leads from one relation to another, for each port before and after, does so for all ports
 pub moved-all : (P Q : Port → Port → Type 0) (f : Port → Port → Port)
     → ((was now : Port) → P was now → Q was (f was now)) → (ms : List Moving)
     → AllByRecursion (λ m. P m.was m.now) ms → AllByRecursion (λ m. Q m.was m.now) (each f ms)
 moved-all P Q f keeps [] h = tt
 moved-all P Q f keeps (m ∷ ms) h = (keeps m.was m.now h.0, moved-all P Q f keeps ms h.1)
 
--- a port that was the Root port is the one of this id
+-- if the port was the Root port, the root priority vector came from the port with this identifier
 abbrev Came : ℕ → Port → Port → Type 0
 Came id was now = is_root was.role ≡ true → (id == id_of now) ≡ true
 
+-- that holds of a port whose role was right before the call
 came_from_root : (id : ℕ) (root : Vector) (p q : Port) → IsSamePort p q → HasRole id root p p.role
     → Came root.receiving p q
 came_from_root id root p q same has is =
@@ -45,6 +47,7 @@ came_from_root id root p q same has is =
     let came : HasRole id root p Root = subst P (root_is p.role is) has in
     ap₂ (λ a b. root.receiving == port_id a b) same.priority same.number ∙ came.1
 
+-- it holds of all ports of a bridge that was in line
 came : (id : ℕ) (root : Vector) (all ps : List Port) (ms : List Moving) → AreMoving ps ms → IsRootVector id all root
     → AllByRecursion (λ p. (v : Vector) → IsRootVector id all v → HasRole id v p p.role) ps
     → AllByRecursion (λ m. Came root.receiving m.was m.now) ms
@@ -57,11 +60,11 @@ came id root all (p ∷ ps) (m ∷ ms) h is roles =
     )
 came id root all _ _ h is roles = absurd h
 
--- a port that was the Root port has no agreement, or isn't Designated
+-- a port that was the Root port has no agreement, or is not Designated
 abbrev IsFree : Port → Port → Type 0
 IsFree was now = is_root was.role ≡ true → (now.agreed ≡ false) ⊎ (is_designated now.role ≡ false)
 
--- the same root vector gives the port the role Root, if it is enabled
+-- under the same root priority vector an enabled port that was the Root port is the Root port again
 free_role : (id : ℕ) (root : Vector) (was now : Port) → Came root.receiving was now
     → IsFree was (with_role id root was now)
 free_role id root was now came is = inr (by_enabled now.port_enabled)
@@ -71,16 +74,19 @@ free_role id root was now came is = inr (by_enabled now.port_enabled)
     by_enabled true = ap (λ b. is_designated (if b then Root else other_role id root now now.info)) (came is)
     by_enabled false = refl
 
+-- equal vectors were received at the same port
 same_receiving : (v w : Vector) → is_same_vector v w ≡ true → v.receiving ≡ w.receiving
 same_receiving v w e =
     eqb-true v.receiving w.receiving
     (and_parts (v.root == w.root && v.cost == w.cost && v.bridge == w.bridge && v.port == w.port)
     (v.receiving == w.receiving) e).1
 
+-- without agreements no port has one
 all_free : (ms : List Moving) → AllByRecursion (λ m. IsFree m.was m.now) (each without_agreement ms)
 all_free [] = tt
 all_free (m ∷ ms) = (λ is. inl refl, all_free ms)
 
+-- after stage 2 a port that was the Root port has no agreement, or is not Designated
 free-second : (id : ℕ) (ps : List Port) (ms : List Moving) → AreMoving ps ms
     → AllByRecursion (λ p. (v : Vector) → IsRootVector id ps v → HasRole id v p p.role) ps
     → AllByRecursion (λ m. IsFree m.was m.now) (with_agreements id (with_roles id ms))
@@ -111,10 +117,12 @@ free-second id ps ms h roles =
         (subst P same (came id (root_vector id ps) ps ps ms h (root_vector-is id ps) roles))
     by_test false e = all_free (with_roles id ms)
 
+-- of two ports with that property, either choice has it
 free-if : (b : Bool) (was q r : Port) → IsFree was q → IsFree was r → IsFree was (if b then q else r)
 free-if true was q r hq hr = hq
 free-if false was q r hq hr = hr
 
+-- the same after stage 3
 free-third : (ms : List Moving) → AllByRecursion (λ m. IsFree m.was m.now) ms
     → AllByRecursion (λ m. IsFree m.was m.now) (with_infos ms)
 free-third ms h =
@@ -122,10 +130,11 @@ free-third ms h =
     (λ was now f. free-if (is_designated now.role && is_some now.info) was (record now { info = None; new_info = true })
     now f f) ms h
 
--- a port that was the Root port and isn't is Discarding
+-- a port that was the Root port and is not any more is Discarding
 abbrev IsHeld : Port → Port → Type 0
 IsHeld was now = is_root was.role ≡ true → is_root now.role ≡ false → is_discarding now.state ≡ true
 
+-- after stage 4 that holds
 held-state : (fwd_delay : ℕ) (was now : Port) → IsFree was now → IsHeld was (with_state fwd_delay was now)
 held-state fwd_delay was now free is = by_role now.role refl
   where
@@ -149,16 +158,19 @@ held-state fwd_delay was now free is = by_role now.role refl
     ]
     by_role _ e other = refl
 
+-- of two ports with that property, either choice has it
 held-if : (b : Bool) (was q r : Port) → IsHeld was q → IsHeld was r → IsHeld was (if b then q else r)
 held-if true was q r hq hr = hq
 held-if false was q r hq hr = hr
 
+-- the same for two lists of ports
 held-or : (b : Bool) (ms ns : List Moving) → AllByRecursion (λ m. IsHeld m.was m.now) ms
     → AllByRecursion (λ m. IsHeld m.was m.now) ns
     → AllByRecursion (λ m. IsHeld m.was m.now) (if b then ms else ns)
 held-or true ms ns hm hn = hm
 held-or false ms ns hm hn = hn
 
+-- the same after stage 5
 held-fifth : (heard : Option Heard) (ms : List Moving) → AllByRecursion (λ m. IsHeld m.was m.now) ms
     → AllByRecursion (λ m. IsHeld m.was m.now) (with_proposal heard ms)
 held-fifth None ms h = h
@@ -172,6 +184,7 @@ held-fifth (Some heard) ms h =
     (held_back (fwd_delay_of (nows ms)) now) now (λ _ _. refl) f) ms h)
     h)) h
 
+-- the same after all stages
 held_settled : (prompt : Bool) (id : ℕ) (heard : Option Heard) (ps : List Port) (ms : List Moving) → AreMoving ps ms
     → AllByRecursion (λ p. (v : Vector) → IsRootVector id ps v → HasRole id v p p.role) ps
     → AllByRecursion (λ m. IsHeld m.was m.now) (with_sent (settled prompt id heard ms))
@@ -200,6 +213,7 @@ held_settled prompt id heard ps ms h roles =
     (λ was now f. held-if (is_sending now) was (record now { new_info = false; tx_count = now.tx_count + 1 }) now f f)
     (settled prompt id heard ms) seventh
 
+-- after every call a port that was the Root port and is not any more is Discarding
 pub settle_old_roots : (prompt : Bool) (id hello_when hello_when_now : ℕ) (heard : Option Heard) (ps : List Port)
     (ms : List Moving)
     → AreMoving ps ms

@@ -1,4 +1,4 @@
--- The machines of a plan's bridges have the plan's ports, whatever they were told.
+-- The bridges have the plan's ports after any steps.
 use Rattle.std.proofs.Common.{◌≡◌, ℕ, zero, suc, ◌+◌, ◌≤◌, ◌<◌, List, [], ◌∷◌, ◌++◌, Some, refl, sym, ap, ◌∙◌, Bool}
 use Rattle.std.proofs.Common.{true, false, ◌==◌, ◌||◌, map, length, inl, inr, slice_get, arith}
 use Rattle.std.specs.List.{flat_map, list_any, AllByRecursion}
@@ -29,8 +29,9 @@ use Rattle.pb_rstp.proofs.ForestLaws.{numbered-at}
 use Rattle.pb_rstp.proofs.MovingLaws.{same_port-trans, same_ports, is_same_bridge, moving_by, settle_same}
 use Rattle.pb_rstp.proofs.MovingLaws.{rising-same, port_of-cons}
 
--- Calls keep the bridge.
+-- Calls keep a bridge's identifier and ports.
 
+-- no call changes a bridge's identifier, or a port's number, path cost or priority
 pub calls_keep_bridges : CallsKeepBridges
 calls_keep_bridges machine cause =
     after-each (λ a. IsSameBridge machine a.machine) machine (is_same_bridge machine)
@@ -38,13 +39,14 @@ calls_keep_bridges machine cause =
     machine.ports
     (moved_by change machine.ports) (moving_by change same machine.ports)) cause
 
+-- ports that are kept twice, one time after the other, are kept
 same_ports-trans : (ps qs rs : List Port) → AreSamePorts ps qs → AreSamePorts qs rs → AreSamePorts ps rs
 same_ports-trans [] [] rs h k = k
 same_ports-trans (p ∷ ps) (q ∷ qs) [] h k = absurd k
 same_ports-trans (p ∷ ps) (q ∷ qs) (r ∷ rs) h k = (same_port-trans p q r h.0 k.0, same_ports-trans ps qs rs h.1 k.1)
 same_ports-trans _ _ rs h k = absurd h
 
--- whatever the causes were
+-- after any causes the ports are the same as at first
 pub same_after : (machine : Machine) (causes : List Cause)
     → AreSamePorts machine.ports (machine_after machine causes).ports
 same_after machine [] = same_ports machine.ports
@@ -55,12 +57,13 @@ same_after machine (cause ∷ causes) =
 
 -- Ports by number.
 
--- what rises above n is above it
+-- numbers that rise from n are all above it
 all-above : (n m : ℕ) → m ≤ n → (ps : List Port) → AreRising n (map (λ p. p.number) ps)
     → AllByRecursion (λ p. m < p.number) ps
 all-above n m below [] r = tt
 all-above n m below (p ∷ ps) r = (omega (arith, r.0.0), all-above p.number m (omega (arith, r.0.0)) ps r.1)
 
+-- a port in front of others with greater numbers hides none of them
 found-behind : (p : Port) (ps qs : List Port) → AllByRecursion (λ q. p.number < q.number) qs
     → AllByRecursion (λ q. port_of ps q.number ≡ Some q) qs
     → AllByRecursion (λ q. port_of (p ∷ ps) q.number ≡ Some q) qs
@@ -68,6 +71,7 @@ found-behind p ps [] h k = tt
 found-behind p ps (q ∷ qs) h k =
     (port_of-cons q.number p ps false (lt-not_same p.number q.number h.0) ∙ k.0, found-behind p ps qs h.1 k.1)
 
+-- ports with rising numbers are each found by their own number
 rising-distinct : (n : ℕ) (ps : List Port) → AreRising n (map (λ p. p.number) ps)
     → AllByRecursion (λ p. port_of ps p.number ≡ Some p) ps
 rising-distinct n [] r = tt
@@ -76,6 +80,7 @@ rising-distinct n (p ∷ ps) r = (
   found-behind p ps ps (all-above p.number p.number (omega arith) ps r.1) (rising-distinct p.number ps r.1),
 )
 
+-- ports that are kept have numbers from 1 to 255 too
 small-same : (ps qs : List Port) → AreSamePorts ps qs → AllByRecursion (λ p. (1 ≤ p.number) × (p.number < 256)) ps
     → AllByRecursion (λ p. (1 ≤ p.number) × (p.number < 256)) qs
 small-same [] [] h s = tt
@@ -83,7 +88,7 @@ small-same (p ∷ ps) (q ∷ qs) h s =
     ((omega (arith, s.0.0, h.0.number), omega (arith, s.0.1, h.0.number)), small-same ps qs h.1 s.1)
 small-same _ _ h s = absurd h
 
--- a port that is found is found again, with its cost
+-- a port that is found before is found after, with the same path cost
 found-same : (k : ℕ) (ps qs : List Port) → AreSamePorts ps qs → (p : Port) → port_of ps k ≡ Some p
     → (q : Port) × (port_of qs k ≡ Some q) × (q.cost ≡ p.cost)
 found-same k [] [] h p e = cc
@@ -102,6 +107,7 @@ found-same k _ _ h p e = absurd h
 
 -- The ports of a plan.
 
+-- the ports of a bridge that take part in the spanning tree have rising numbers
 pub rising-ports : (at : ℕ → LocalPort) (n m : ℕ) → m ≤ n → (ns : List ℕ) → AreRising n ns
     → AreRising m (map (λ p. p.number) (map fresh (flat_map (λ k. rstp_port k (at k)) ns)))
 rising-ports at n m below [] r = (tt, tt)
@@ -115,6 +121,7 @@ rising-ports at n m below (k ∷ ks) r =
         (map (λ p. p.number) (map fresh (flat_map (λ i. rstp_port i (at i)) ks))) take
     by_port _ skip take = skip
 
+-- these ports have numbers from 1 to 255
 small-ports : (at : ℕ → LocalPort) (ns : List ℕ) → AllByRecursion (λ n. (1 ≤ n) × (n < 256)) ns
     → AllByRecursion (λ p. (1 ≤ p.number) × (p.number < 256)) (map fresh (flat_map (λ k. rstp_port k (at k)) ns))
 small-ports at [] h = tt
@@ -127,10 +134,11 @@ small-ports at (k ∷ ks) h = by_port (at k) (small-ports at ks h.1)
     by_port (Provider e) rest = (h.0, rest)
     by_port _ rest = rest
 
--- the port of an end
+-- the port at an end of a link, at the start
 abbrev port_for : ℕ → End → Port
 port_for k e = fresh (record { port = k; cost = e.cost; priority = e.priority })
 
+-- the bridge of a link end has that port
 found-port : (at : ℕ → LocalPort) (k : ℕ) (e : End) → at k ≡ Provider e → (ns : List ℕ)
     → list_any (λ n. n == k) ns ≡ true
     → port_of (map fresh (flat_map (λ n. rstp_port n (at n)) ns)) k ≡ Some (port_for k e)
@@ -156,27 +164,32 @@ found-port at k e is (n ∷ ns) listed = by_test (n == k) refl (found-port at k 
         ∙ ap (λ i. Some (port_for i e)) same
     by_test false t rest = by_port (at n) t (rest (sym (ap (λ b. b || list_any (λ i. i == k) ns) t) ∙ listed))
 
--- so many numbers from k on
+-- n numbers from k on
 abbrev up_from : ℕ → ℕ → List ℕ
 up_from k zero = []
 up_from k (suc n) = k ∷ up_from (k + 1) n
 
+-- these numbers rise
 rising-up : (k n : ℕ) → AreRising k (up_from (k + 1) n)
 rising-up k zero = (tt, tt)
 rising-up k (suc n) = rises-above k (k + 1) (omega arith) (up_from (k + 1 + 1) n) (rising-up (k + 1) n)
 
+-- the numbers of local ports rise
 pub local_rise : AreRising 0 local_ports
 local_rise = rising-up 0 16
 
+-- n numbers from k on are at most 16, if k + n is at most 17
 few-up : (k n : ℕ) → 1 ≤ k → k + n ≤ 17 → AllByRecursion (λ m. (1 ≤ m) × (m ≤ 16)) (up_from k n)
 few-up k zero least most = tt
 few-up k (suc n) least most = ((least, omega (arith, most)), few-up (k + 1) n (omega arith) (omega (arith, most)))
 
+-- the numbers of local ports are 1 to 16
 pub local_few : AllByRecursion (λ n. (1 ≤ n) × (n ≤ 16)) local_ports
 local_few = few-up 1 16 (omega arith) (omega arith)
 
--- The machines.
+-- The bridges of a network.
 
+-- a bridge of the plan has different port numbers from 1 to 255, after any steps
 has_ports : (plan : Plan) (bridge : ℕ) (steps : List Step) → HasPorts (machine_of plan bridge steps)
 has_ports plan bridge steps =
     let same = same_after (machine_at_start plan bridge) (flat_map causes_of steps) in
@@ -190,6 +203,7 @@ has_ports plan bridge steps =
           local_ports local_few));
     }
 
+-- the bridge at an end of a link has a port there with the plan's path cost, after any steps
 has_port_at : (plan : Plan) (past : ℕ → List Step) → IsSound plan → (k : ℕ) (link : LinkPlan) (e : End)
     → numbered plan.links k ≡ Some link → IsEndOf link e
     → HasPortAt (machines_of plan past) e
@@ -210,11 +224,13 @@ has_port_at plan past sound k link e at which =
       again.2,
     )
 
+-- there is one bridge of the network for each of the plan
 length-machines : (plan : Plan) (past : ℕ → List Step) {X : Type 0} (k : ℕ) (xs : List X)
     → length (map (λ bridge. machine_of plan bridge (past bridge)) (numbers_from k xs)) ≡ length xs
 length-machines plan past k [] = refl
 length-machines plan past k (x ∷ xs) = ap suc (length-machines plan past (k + 1) xs)
 
+-- after any steps the bridges are those of the plan
 pub planned_are_machines : PlannedAreMachines
 planned_are_machines plan past sound = record {
   count = length-machines plan past 1 plan.bridges;

@@ -1,4 +1,4 @@
--- What brings all into line gives each port its role.
+-- After each call each port has its role.
 use Rattle.std.proofs.Common.{◌≡◌, ℕ, List, [], ◌∷◌, ◌++◌, Some, None, refl, sym, ap, ap₂, ◌∙◌, subst, Bool, true}
 use Rattle.std.proofs.Common.{false, is_some, ◌==◌, ◌&&◌, not, if◌then◌else◌, inl, inr}
 use Rattle.std.specs.declared.option.Option.{Option}
@@ -23,7 +23,7 @@ use Rattle.pb_rstp.specs.declared.role.Role.{Role}
 use Rattle.pb_rstp.specs.declared.role.Role.TheVariants.{Disabled, Root, Designated, Alternate, Backup}
 use Rattle.pb_rstp.proofs.RootLaws.{root_vector-is, root_vector-unique}
 
--- what roles hang on
+-- two ports agree in all that roles depend on
 pub record SameSeen (p q : Port) : Type 0 where
   pub number : q.number ≡ p.number
   pub cost : q.cost ≡ p.cost
@@ -31,6 +31,7 @@ pub record SameSeen (p q : Port) : Type 0 where
   pub port_enabled : q.port_enabled ≡ p.port_enabled
   pub info : q.info ≡ p.info
 
+-- a port's root path priority vector, by what it depends on
 abbrev offer_at : ℕ → Option Info → ℕ → ℕ → List Vector
 offer_at id None cost receiving = []
 offer_at id (Some info) cost receiving =
@@ -42,10 +43,12 @@ offer_at id (Some info) cost receiving =
       receiving = receiving;
     } ∷ []
 
+-- the same for a port that may be disabled
 abbrev offers_at : ℕ → Bool → Option Info → ℕ → ℕ → ℕ → List Vector
 offers_at id port_enabled info cost priority number =
     if port_enabled then offer_at id info cost (port_id priority number) else []
 
+-- a port's root path priority vector depends on nothing else
 offers-at : (id : ℕ) (p : Port) → offers id p ≡ offers_at id p.port_enabled p.info p.cost p.priority p.number
 offers-at id p = ap (λ o. if p.port_enabled then o else []) (by_info p.info)
   where
@@ -53,12 +56,14 @@ offers-at id p = ap (λ o. if p.port_enabled then o else []) (by_info p.info)
     by_info None = refl
     by_info (Some info) = refl
 
+-- ports that agree in all that roles depend on have the same root path priority vector
 pub offers-same : (id : ℕ) (p q : Port) → SameSeen p q → offers id q ≡ offers id p
 offers-same id p q s =
     offers-at id q
     ∙ rw (s.port_enabled, s.info, s.cost, s.priority, s.number) refl
     ∙ sym (offers-at id p)
 
+-- the role of a port that is not the Root port, by what it depends on
 abbrev other_at : ℕ → Vector → ℕ → Option Info → Role
 other_at id root receiving None = Designated
 other_at id root receiving (Some info) =
@@ -67,11 +72,13 @@ other_at id root receiving (Some info) =
     then Designated
     else (if info.bridge == id then Backup else Alternate)
 
+-- the role of any port, by what it depends on
 abbrev role_at : ℕ → Vector → Bool → Option Info → ℕ → ℕ → Role
 role_at id root port_enabled info priority number =
     if port_enabled then (if root.receiving == port_id priority number then Root
     else other_at id root (port_id priority number) info) else Disabled
 
+-- a port's role depends on nothing else
 role-at : (id : ℕ) (root : Vector) (p : Port)
     → role_by id root p ≡ role_at id root p.port_enabled p.info p.priority p.number
 role-at id root p =
@@ -81,44 +88,50 @@ role-at id root p =
     by_info None = refl
     by_info (Some info) = refl
 
+-- ports that agree in all that roles depend on have the same role
 pub role-same : (id : ℕ) (root : Vector) (p q : Port) → SameSeen p q → role_by id root q ≡ role_by id root p
 role-same id root p q s =
     role-at id root q
     ∙ rw (s.port_enabled, s.info, s.priority, s.number) refl
     ∙ sym (role-at id root p)
 
--- each port has the role that follows from what all store
+-- a port has the role that the root priority vector gives it
 abbrev pub HasRoleBy : ℕ → Vector → Port → Type 0
 HasRoleBy id root p = p.role ≡ role_by id root p
 
+-- all ports have the roles of this root priority vector, which is that of the ports
 abbrev pub HaveRoles : ℕ → Vector → List Moving → Type 0
 HaveRoles id root ports = (root_vector id (nows ports) ≡ root) × AllByRecursion (HasRoleBy id root) (nows ports)
 
 -- Changes of each port.
 
+-- a change that leads from one property to another, for each port, does so for all ports
 pub each-all : (P Q : Port → Type 0) (f : Port → Port → Port) → ((was now : Port) → P now → Q (f was now))
     → (ports : List Moving)
     → AllByRecursion P (nows ports) → AllByRecursion Q (nows (each f ports))
 each-all P Q f keeps [] h = tt
 each-all P Q f keeps (p ∷ ps) h = (keeps p.was p.now h.0, each-all P Q f keeps ps h.1)
 
+-- a change that keeps each port's root path priority vector keeps all of them
 offers-each : (id : ℕ) (f : Port → Port → Port) → ((was now : Port) → offers id (f was now) ≡ offers id now)
     → (ports : List Moving)
     → flat_map (offers id) (nows (each f ports)) ≡ flat_map (offers id) (nows ports)
 offers-each id f same [] = refl
 offers-each id f same (p ∷ ps) = ap₂ (λ a b. a ++ b) (same p.was p.now) (offers-each id f same ps)
 
+-- a change that keeps what roles depend on keeps the root priority vector
 root-each : (id : ℕ) (f : Port → Port → Port) → ((was now : Port) → SameSeen now (f was now)) → (ports : List Moving)
     → root_vector id (nows (each f ports)) ≡ root_vector id (nows ports)
 root-each id f same ports =
     ap (λ os. best (own_vector id) os) (offers-each id f (λ was now. offers-same id now (f was now) (same was now))
     ports)
 
--- a change that leaves alone what roles hang on, and the role
+-- a change keeps what roles depend on, and the role
 pub record Keeps (p q : Port) : Type 0 where
   pub seen : SameSeen p q
   pub role : q.role ≡ p.role
 
+-- a change that keeps these of each port keeps all roles right
 pub roles-each : (id : ℕ) (root : Vector) (f : Port → Port → Port) → ((was now : Port) → Keeps now (f was now))
     → (ports : List Moving)
     → HaveRoles id root ports → HaveRoles id root (each f ports)
@@ -128,17 +141,20 @@ roles-each id root f keeps ports h = (
       (λ was now e. (keeps was now).role ∙ e ∙ sym (role-same id root now (f was now) (keeps was now).seen)) ports h.1,
 )
 
+-- a port agrees with itself
 same_seen : (p : Port) → SameSeen p p
 same_seen p = record { number = refl; cost = refl; priority = refl; port_enabled = refl; info = refl }
 
+-- no change keeps all
 pub keeps_all : (p : Port) → Keeps p p
 keeps_all p = record { seen = same_seen p; role = refl }
 
+-- of two changes that keep these, either choice keeps them
 keeps-if : (b : Bool) (p q r : Port) → Keeps p q → Keeps p r → Keeps p (if b then q else r)
 keeps-if true p q r kq kr = kq
 keeps-if false p q r kq kr = kr
 
--- first
+-- after stage 1 all roles are right
 pub roles-first : (id : ℕ) (ports : List Moving) → HaveRoles id (root_vector id (nows ports)) (with_roles id ports)
 roles-first id ports = (
   root-each id (with_role id (root_vector id (nows ports)))
@@ -157,7 +173,7 @@ roles-first id ports = (
       all root ps,
     )
 
--- second
+-- stage 2 changes no role
 pub keeps-agreement : (was now : Port) → Keeps now (without_agreement was now)
 keeps-agreement was now =
     record {
@@ -165,33 +181,37 @@ keeps-agreement was now =
       role = refl;
     }
 
+-- of two lists of ports with right roles, either choice has them
 roles-if : (id : ℕ) (root : Vector) (b : Bool) (ps qs : List Moving) → HaveRoles id root ps → HaveRoles id root qs
     → HaveRoles id root (if b then ps else qs)
 roles-if id root true ps qs hp hq = hp
 roles-if id root false ps qs hp hq = hq
 
+-- after stage 2 all roles are right
 pub roles-second : (id : ℕ) (root : Vector) (ports : List Moving) → HaveRoles id root ports
     → HaveRoles id root (with_agreements id ports)
 roles-second id root ports h =
     roles-if id root _ ports (each without_agreement ports) h
     (roles-each id root without_agreement keeps-agreement ports h)
 
--- third
+-- the test for Designated passes for that role alone
 designated_is : (r : Role) → is_designated r ≡ true → r ≡ Designated
 designated_is Designated e = refl
 designated_is _ e = cc
 
--- the port that the root vector came from has the role Root
+-- the port from which the root priority vector came is the Root port
 root_role : (id : ℕ) (root : Vector) (p : Port) → IsWay id p root → role_by id root p ≡ Root
 root_role id root p (info, enabled, stored, other, is) =
     let receiving : root.receiving ≡ id_of p = ap (λ v. v.receiving) is in
     let came : came_from root p ≡ true = eq-eqb root.receiving (id_of p) receiving in
     ap₂ (λ u c. if u then (if c then Root else other_role id root p p.info) else Disabled) enabled came
 
+-- stage 3 leaves the Root port as it is
 root_port_kept : (was p : Port) → p.role ≡ Root → without_info was p ≡ p
 root_port_kept was p role =
     ap (λ r. if is_designated r && is_some p.info then record p { info = None; new_info = true } else p) role
 
+-- the root priority vector is still a port's root path priority vector after stage 3
 way_kept : (id : ℕ) (root : Vector) (ports : List Moving) → AllByRecursion (HasRoleBy id root) (nows ports)
     → IsWayOfSome id (nows ports) root → IsWayOfSome id (nows (each without_info ports)) root
 way_kept id root [] roles h = absurd h
@@ -200,6 +220,7 @@ way_kept id root (m ∷ ms) roles (inl way) =
     inl (subst P (sym (root_port_kept m.was m.now (roles.0 ∙ root_role id root m.now way))) way)
 way_kept id root (m ∷ ms) roles (inr h) = inr (way_kept id root ms roles.1 h)
 
+-- stage 3 adds no root path priority vector
 way_was : (id : ℕ) (v : Vector) (ports : List Moving) → IsWayOfSome id (nows (each without_info ports)) v
     → IsWayOfSome id (nows ports) v
 way_was id v [] h = absurd h
@@ -211,6 +232,7 @@ way_was id v (m ∷ ms) (inl way) = inl (by_test (is_designated m.now.role && is
     by_test false way = way
 way_was id v (m ∷ ms) (inr h) = inr (way_was id v ms h)
 
+-- stage 3 leaves the root priority vector
 without_info_root : (id : ℕ) (root : Vector) (ports : List Moving) → HaveRoles id root ports
     → root_vector id (nows (with_infos ports)) ≡ root
 without_info_root id root ports h =
@@ -223,12 +245,14 @@ without_info_root id root ports h =
     root_vector-unique id (nows (with_infos ports)) (root_vector id (nows (with_infos ports))) root
     (root_vector-is id (nows (with_infos ports))) still
 
+-- a Designated port is Designated also if it stores nothing
 designated_still : (enabled came : Bool) (r other : Role) → r ≡ Designated
     → r ≡ (if enabled then (if came then Root else other) else Disabled)
     → r ≡ (if enabled then (if came then Root else Designated) else Disabled)
 designated_still true false r other d e = d
 designated_still _ _ r other d e = e
 
+-- stage 3 leaves each role right
 role_without_info : (id : ℕ) (root : Vector) (was now : Port) → HasRoleBy id root now
     → HasRoleBy id root (without_info was now)
 role_without_info id root was now e = by_test (is_designated now.role) (is_some now.info) refl
@@ -240,6 +264,7 @@ role_without_info id root was now e = by_test (is_designated now.role) (is_some 
         (designated_is now.role d) e
     by_test _ _ d = e
 
+-- after stage 3 all roles are right
 pub roles-third : (id : ℕ) (root : Vector) (ports : List Moving) → HaveRoles id root ports
     → HaveRoles id root (with_infos ports)
 roles-third id root ports h = (
@@ -247,7 +272,7 @@ roles-third id root ports h = (
   each-all (HasRoleBy id root) (HasRoleBy id root) without_info (role_without_info id root) ports h.1,
 )
 
--- fourth
+-- stage 4 changes no role
 pub keeps-state : (fwd_delay : ℕ) (was now : Port) → Keeps now (with_state fwd_delay was now)
 keeps-state fwd_delay was now = by_role now.role
   where
@@ -294,18 +319,20 @@ keeps-state fwd_delay was now = by_role now.role
           role = refl;
         }))
 
--- fifth
+-- holding back a port changes no role
 keeps_held : (fwd_delay : ℕ) (p : Port) → Keeps p (held_back fwd_delay p)
 keeps_held fwd_delay p = record {
   seen = record { number = refl; cost = refl; priority = refl; port_enabled = refl; info = refl };
   role = refl;
 }
 
+-- holding back Designated ports in stage 5 changes no role
 pub keeps-synced : (fwd_delay : ℕ) (was now : Port) → Keeps now (synced fwd_delay was now)
 keeps-synced fwd_delay was now =
     keeps-if (is_designated now.role && not now.agreed && not (is_discarding now.state)) now _ now
     (keeps_held fwd_delay now) (keeps_all now)
 
+-- agreeing to a proposal changes no role
 pub keeps-agreeing : (number : ℕ) (was now : Port) → Keeps now (agreeing number was now)
 keeps-agreeing number was now =
     keeps-if (is_agreeing number now) now _ now
@@ -315,6 +342,7 @@ keeps-agreeing number was now =
     })
     (keeps_all now)
 
+-- after stage 5 all roles are right
 pub roles-fifth : (id : ℕ) (root : Vector) (heard : Option Heard) (ports : List Moving) → HaveRoles id root ports
     → HaveRoles id root (with_proposal heard ports)
 roles-fifth id root None ports h = h
@@ -324,7 +352,7 @@ roles-fifth id root (Some heard) ports h =
     (roles-if id root (list_any (is_root_agreeing heard.port) (nows ports)) _ ports
     (roles-each id root (synced (fwd_delay_of (nows ports))) (keeps-synced (fwd_delay_of (nows ports))) ports h) h)) h
 
--- sixth to eighth
+-- stage 6 changes no role
 pub keeps-tc_while : (heard : Option Heard) (ports : List Moving) (was now : Port)
     → Keeps now (with_tc_while heard ports was now)
 keeps-tc_while heard ports was now =
@@ -335,6 +363,7 @@ keeps-tc_while heard ports was now =
     })
     (keeps_all now)
 
+-- stage 7 changes no role
 pub keeps-update : (id : ℕ) (before after : Offer) (was now : Port) → Keeps now (with_update id before after was now)
 keeps-update id before after was now =
     keeps-if (is_updated id before after was now) now _ now
@@ -344,6 +373,7 @@ keeps-update id before after was now =
     })
     (keeps_all now)
 
+-- stage 8 changes no role
 pub keeps-sending : (was now : Port) → Keeps now (after_sending was now)
 keeps-sending was now =
     keeps-if (is_sending now) now _ now
@@ -353,7 +383,7 @@ keeps-sending was now =
     })
     (keeps_all now)
 
--- all eight
+-- after all stages all roles are right
 pub roles_settled : (prompt : Bool) (id : ℕ) (heard : Option Heard) (ports : List Moving)
     → HaveRoles id (root_vector id (nows ports)) (with_sent (settled prompt id heard ports))
 roles_settled prompt id heard ports =
@@ -376,8 +406,9 @@ roles_settled prompt id heard ports =
     (roles-each id root (with_update id before after) (keeps-update id before after) reported sixth) sixth in
     roles-each id root after_sending keeps-sending (settled prompt id heard ports) seventh
 
--- Roles as a relation.
+-- The computed role has the property that defines it.
 
+-- the computed role has the property that defines it
 pub has_role : (id : ℕ) (root : Vector) (p : Port) → HasRole id root p (role_by id root p)
 has_role id root p = by_enabled p.port_enabled refl
   where
@@ -410,6 +441,7 @@ has_role id root p = by_enabled p.port_enabled refl
     by_enabled true enabled = by_came enabled (came_from root p) refl
     by_enabled false enabled = enabled
 
+-- right roles have the properties that define them, for every root priority vector of the ports
 pub roles_related : (id : ℕ) (root : Vector) (all ports : List Port) → root_vector id all ≡ root
     → AllByRecursion (HasRoleBy id root) ports
     → AllByRecursion (λ p. (v : Vector) → IsRootVector id all v → HasRole id v p p.role) ports

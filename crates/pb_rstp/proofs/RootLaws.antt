@@ -1,4 +1,4 @@
--- The root vector is the least candidate.
+-- The computed root priority vector is the best candidate, and the only one.
 use Rattle.std.proofs.Common.{◌≡◌, ◌⊎◌, ℕ, List, [], ◌∷◌, ◌++◌, Some, None, refl, sym, ◌∙◌, subst, Bool, true, false}
 use Rattle.std.proofs.Common.{◌==◌, if◌then◌else◌, inl, inr}
 use Rattle.std.specs.declared.option.Option.{Option}
@@ -12,34 +12,39 @@ use Rattle.pb_rstp.specs.Roles.{offer_of, offers, best, root_vector, IsWay, IsWa
 use Rattle.pb_rstp.specs.declared.vector.Vector.{Vector}
 use Rattle.pb_rstp.proofs.OrderLaws.{better-irrefl, better-asym, better-antisym, not_better-trans}
 
--- the vector stands in the list
+-- a vector is in a list
 abbrev pub In : Vector → List Vector → Type 0
 In v [] = ⊥
 In v (w ∷ ws) = (v ≡ w) ⊎ In v ws
 
+-- a vector in a joined list is in one of its parts
 pub in-append : (v : Vector) (us ws : List Vector) → In v (us ++ ws) → In v us ⊎ In v ws
 in-append v [] ws h = inr h
 in-append v (u ∷ us) ws (inl e) = inl (inl e)
 in-append v (u ∷ us) ws (inr h) = elim (in-append v us ws h) [ inl a ↦ inl (inr a) | inr b ↦ inr b ]
 
+-- a vector in the first part is in the joined list
 pub in_left : (v : Vector) (us ws : List Vector) → In v us → In v (us ++ ws)
 in_left v [] ws h = absurd h
 in_left v (u ∷ us) ws (inl e) = inl e
 in_left v (u ∷ us) ws (inr h) = inr (in_left v us ws h)
 
+-- a vector in the second part is in the joined list
 pub in_right : (v : Vector) (us ws : List Vector) → In v ws → In v (us ++ ws)
 in_right v [] ws h = h
 in_right v (u ∷ us) ws h = inr (in_right v us ws h)
 
--- the better of two
+-- the better of two vectors, or the first if neither is
 abbrev pick : Vector → Vector → Vector
 pick v w = if is_better w v then w else v
 
+-- what holds of the better of two: it is one of them, and neither is better
 record Picks (v w p : Vector) : Type 0 where
   one : (p ≡ v) ⊎ (p ≡ w)
   first : is_better v p ≡ false
   second : is_better w p ≡ false
 
+-- the better of two has that property
 picks : (v w : Vector) → Picks v w (pick v w)
 picks v w = by_test (is_better w v) refl
   where
@@ -47,6 +52,7 @@ picks v w = by_test (is_better w v) refl
     by_test true e = record { one = inr refl; first = better-asym w v e; second = better-irrefl w }
     by_test false e = record { one = inl refl; first = better-irrefl v; second = e }
 
+-- the best vector is one of those compared
 pub best-in : (v : Vector) (ws : List Vector) → (best v ws ≡ v) ⊎ In (best v ws) ws
 best-in v [] = inl refl
 best-in v (w ∷ ws) = elim (best-in (pick v w) ws) [
@@ -54,11 +60,12 @@ best-in v (w ∷ ws) = elim (best-in (pick v w) ws) [
   | inr h ↦ inr (inr h)
 ]
 
--- no item, nor what it began with, is better than the best
+-- the vector at the start of the search is not better than the best
 pub best-start : (v : Vector) (ws : List Vector) → is_better v (best v ws) ≡ false
 best-start v [] = better-irrefl v
 best-start v (w ∷ ws) = not_better-trans v (pick v w) (best (pick v w) ws) (picks v w).first (best-start (pick v w) ws)
 
+-- no vector of the list is better than the best
 pub best-least : (v : Vector) (ws : List Vector) (u : Vector) → In u ws → is_better u (best v ws) ≡ false
 best-least v [] u h = absurd h
 best-least v (w ∷ ws) u (inl e) =
@@ -66,7 +73,7 @@ best-least v (w ∷ ws) u (inl e) =
     subst P (sym e) (not_better-trans w (pick v w) (best (pick v w) ws) (picks v w).second (best-start (pick v w) ws))
 best-least v (w ∷ ws) u (inr h) = best-least (pick v w) ws u h
 
--- a way is an offer, and an offer a way
+-- a root path priority vector is among those that a port offers
 pub way_offered : (id : ℕ) (p : Port) (v : Vector) → IsWay id p v → In v (offers id p)
 way_offered id p v (info, enabled, stored, other, is) =
     let P : Bool → Option Info → Type 0 = λ b o. In v (if b then offer_of id p o else []) in
@@ -76,6 +83,7 @@ way_offered id p v (info, enabled, stored, other, is) =
     by_test true e = absurd (other (eqb-true info.bridge id e))
     by_test false e = inl is
 
+-- what a port offers is a root path priority vector
 pub offered_way : (id : ℕ) (p : Port) (v : Vector) → In v (offers id p) → IsWay id p v
 offered_way id p v h = by_enabled p.port_enabled refl h
   where
@@ -93,19 +101,21 @@ offered_way id p v h = by_enabled p.port_enabled refl h
     by_enabled true enabled h = by_info enabled p.info refl h
     by_enabled false enabled h = absurd h
 
+-- the same for all ports of a bridge, in the one direction
 pub ways_offered : (id : ℕ) (ports : List Port) (v : Vector) → IsWayOfSome id ports v
     → In v (flat_map (offers id) ports)
 ways_offered id [] v h = absurd h
 ways_offered id (p ∷ ps) v (inl way) = in_left v (offers id p) (flat_map (offers id) ps) (way_offered id p v way)
 ways_offered id (p ∷ ps) v (inr h) = in_right v (offers id p) (flat_map (offers id) ps) (ways_offered id ps v h)
 
+-- and in the other
 pub offered_ways : (id : ℕ) (ports : List Port) (v : Vector) → In v (flat_map (offers id) ports)
     → IsWayOfSome id ports v
 offered_ways id [] v h = absurd h
 offered_ways id (p ∷ ps) v h = elim (in-append v (offers id p) (flat_map (offers id) ps) h)
     [ inl a ↦ inl (offered_way id p v a) | inr b ↦ inr (offered_ways id ps v b) ]
 
--- the root vector that is computed is the least candidate
+-- the computed root priority vector is the best candidate
 pub root_vector-is : (id : ℕ) (ports : List Port) → IsRootVector id ports (root_vector id ports)
 root_vector-is id ports = record {
   candidate = elim (best-in (own_vector id) (flat_map (offers id) ports))
@@ -117,7 +127,7 @@ root_vector-is id ports = record {
   ];
 }
 
--- there is one least candidate
+-- there is only one best candidate
 pub root_vector-unique : (id : ℕ) (ports : List Port) (v w : Vector) → IsRootVector id ports v
     → IsRootVector id ports w → v ≡ w
 root_vector-unique id ports v w a b = better-antisym v w (b.least v a.candidate) (a.least w b.candidate)

@@ -1,4 +1,4 @@
--- Where bridges are settled, cost rises along every link whose ends are both Forwarding.
+-- In a network that has converged root path cost rises along every link with both ends Forwarding.
 use Rattle.std.proofs.Common.{◌≡◌, ◌⊎◌, ℕ, ◌+◌, ◌*◌, ◌≤◌, ◌<◌, List, [], ◌∷◌, Some, refl, sym, ap, ◌∙◌, subst, true}
 use Rattle.std.proofs.Common.{false, ◌==◌, inl, inr, arith}
 use Rattle.std.specs.List.{AllByRecursion}
@@ -27,7 +27,7 @@ use Rattle.pb_lan.specs.declared.shape.PortState.{PortState}
 use Rattle.pb_lan.specs.declared.shape.PortState.TheVariants.{Discarding, Learning, Forwarding}
 use Rattle.pb_rstp.proofs.RootLaws.{root_vector-is}
 
--- the port that has a way
+-- the port whose root path priority vector the root priority vector is
 way_port : (P : Port → Type 0) (id : ℕ) (ports : List Port) (v : Vector) → AllByRecursion P ports
     → IsWayOfSome id ports v
     → (p : Port) × P p × IsWay id p v
@@ -35,21 +35,23 @@ way_port P id [] v all h = absurd h
 way_port P id (p ∷ ps) v all (inl way) = (p, all.0, way)
 way_port P id (p ∷ ps) v all (inr h) = way_port P id ps v all.1 h
 
+-- the test for Root passes for that role alone
 pub root_is : (r : Role) → is_root r ≡ true → r ≡ Root
 root_is Root e = refl
 root_is _ e = cc
 
--- ids of small numbers tell the numbers
+-- equal port identifiers have equal port numbers
 pub same_number : (p p' n n' : ℕ) → n < 256 → n' < 256 → p * 256 + n ≡ p' * 256 + n' → n ≡ n'
 same_number p p' n n' h h' e = omega arith
 
--- what is known of each port of a machine
+-- what holds of each port of a bridge in line
 pub record IsPortOf (m : Machine) (p : Port) : Type 0 where
   pub by_number : port_of m.ports p.number ≡ Some p
   pub small : (1 ≤ p.number) × (p.number < 256)
   pub role : HasRole m.id (root_vector m.id m.ports) p p.role
   pub quiet : IsQuiet p
 
+-- it holds of all its ports
 ports_known : (m : Machine) → IsInLine m → HasPorts m → AllByRecursion (IsPortOf m) m.ports
 ports_known m line has = go m.ports line.roles line.states has.distinct has.small
   where
@@ -68,14 +70,14 @@ ports_known m line has = go m.ports line.roles line.states has.distinct has.smal
       go ps roles.1 quiet.1 distinct.1 small.1,
     )
 
--- a port that is found is one of them
+-- a port that is found by its number is one of them
 known_port : (m : Machine) → IsInLine m → HasPorts m → (k : ℕ) (q : Port) → port_of m.ports k ≡ Some q
     → IsPortOf m q × (q.number ≡ k)
 known_port m line has k q e =
     let h = first-found (IsPortOf m) (λ p. p.number == k) m.ports q e (ports_known m line has) in
     (h.0, eqb-true q.number k h.1)
 
--- the root vector is the way through the Root port
+-- the root priority vector is the root path priority vector of the Root port
 pub root_way : (m : Machine) → IsInLine m → HasPorts m → (q : Port) → IsPortOf m q → q.role ≡ Root
     → IsWay m.id q (root_vector m.id m.ports)
 root_way m line has q port role = by_candidate (root_vector-is m.id m.ports).candidate
@@ -106,10 +108,11 @@ root_way m line has q port role = by_candidate (root_vector-is m.id m.ports).can
         let P : Port → Type 0 = λ p. IsWay m.id p (root_vector m.id m.ports) in
         subst P (sym same) w.2
 
+-- a cost that does not exceed the greatest cost is not cut
 held : (cost more : ℕ) → cost + more ≤ greatest_cost → raised cost more ≡ cost + more
 held cost more h = omega arith
 
--- a Root port that stores what another machine offers is behind a greater cost
+-- a bridge whose Root port stores what another offers has the greater root path cost
 cost_falls : (m n : Machine) (p q : Port) → IsInLine n → HasPorts n → IsPortOf n q → q.role ≡ Root → IsNotHeld q
     → 1 ≤ q.cost
     → StoresOffer q m p → root_cost m < root_cost n
@@ -126,36 +129,39 @@ cost_falls m n p q line has port role not_held above (info, stored, offer) =
     second_of : (a b c d a' b' c' d' : ℕ) → a ∷ b ∷ c ∷ d ∷ [] ≡ a' ∷ b' ∷ c' ∷ d' ∷ [] → b ≡ b'
     second_of a b c d a' b' c' d' e = cc
 
+-- no state is both Discarding and Forwarding
 not_both : (s : PortState) → is_discarding s ≡ true → is_forwarding s ≡ true → ⊥
 not_both Discarding d f = cc
 not_both Learning d f = cc
 not_both Forwarding d f = cc
 
--- a Forwarding port is Root or Designated, and enabled
+-- a Forwarding port is Root or Designated
 active_role : (r : Role) (s : PortState) → (is_root_or_designated r ≡ false → is_discarding s ≡ true)
     → is_forwarding s ≡ true → is_root_or_designated r ≡ true
 active_role Root s quiet e = refl
 active_role Designated s quiet e = refl
 active_role _ s quiet e = absurd (not_both s (quiet refl) e)
 
+-- a Root or Designated port is enabled
 role_up : (id : ℕ) (root : Vector) (p : Port) (r : Role) → HasRole id root p r → is_root_or_designated r ≡ true
     → p.port_enabled ≡ true
 role_up id root p Root h e = h.0
 role_up id root p Designated h e = h.0
 role_up id root p _ h e = cc
 
+-- a port in the tree that is not Designated is Root
 other_is_root : (r : Role) → is_root_or_designated r ≡ true → is_designated r ≡ false → is_root r ≡ true
 other_is_root Root e d = refl
 other_is_root _ e d = cc
 
--- what holds of a network of machines
+-- what holds of a network that has converged, in a sound plan
 pub record Network (plan : Plan) (machines : List Machine) : Type 0 where
   pub sound : IsSound plan
   pub are : AreMachines plan machines
   pub settled : IsSettled plan machines
   pub none_held : NoneHeld machines
 
--- a port that stands at an end
+-- what holds of the port at a link end
 pub record Stands (plan : Plan) (machines : List Machine) (e : End) (m : Machine) (p : Port) : Type 0 where
   pub at : StandsAt machines e m p
   pub line : IsInLine m
@@ -164,6 +170,7 @@ pub record Stands (plan : Plan) (machines : List Machine) (e : End) (m : Machine
   pub number : p.number ≡ e.port
   pub not_held : IsNotHeld p
 
+-- it holds of every port at a link end
 pub stands : (plan : Plan) (machines : List Machine) → Network plan machines → (e : End) (m : Machine) (p : Port)
     → StandsAt machines e m p → Stands plan machines e m p
 stands plan machines net e m p at =
@@ -180,7 +187,7 @@ stands plan machines net e m p at =
       not_held = (first-found IsNotHeld (λ q. q.number == e.port) m.ports p at.port free).0;
     }
 
--- the port that stands at an end costs what the plan says
+-- the port at a link end has a path cost of at least 1
 cost_above : (plan : Plan) (machines : List Machine) → Network plan machines → (k : ℕ) (link : LinkPlan) (e : End)
     → numbered plan.links k ≡ Some link
     → IsEndOf link e → (m : Machine) (p : Port) → StandsAt machines e m p → 1 ≤ p.cost
@@ -198,6 +205,7 @@ cost_above plan machines net k link e at which m p stands_at =
     of_end both (inl h) = let P : End → Type 0 = λ f. HasPortAt machines f in subst P h both.0
     of_end both (inr h) = let P : End → Type 0 = λ f. HasPortAt machines f in subst P h both.1
 
+-- root path cost rises from a Designated end to the other end, if that is Forwarding
 rise : (plan : Plan) (machines : List Machine) → Network plan machines → (k : ℕ) (link : LinkPlan)
     → numbered plan.links k ≡ Some link
     → (upper lower : End) → IsEndOf link lower → (m n : Machine) (p q : Port) → StandsAt machines upper m p
@@ -220,6 +228,7 @@ rise plan machines net k link at upper lower which m n p q above below leads for
           (cost_above plan machines net k link lower at which n q below) leads.stores;
     }
 
+-- root path cost rises along a link with both ends Forwarding, in one direction
 pub rises : (plan : Plan) (machines : List Machine) → Network plan machines → (k : ℕ) (link : LinkPlan)
     → numbered plan.links k ≡ Some link
     → AreBothForwarding machines link → Rises machines link.a link.b ⊎ Rises machines link.b link.a
@@ -237,6 +246,7 @@ rises plan machines net k link at (m, n, p, q, here, there, p_forwarding, q_forw
           p_forwarding)
     ]
 
+-- root path cost rises along every link with both ends Forwarding
 pub cost_rises : CostRises
 cost_rises plan machines sound are settled none_held k link at both =
     rises plan machines (record { sound = sound; are = are; settled = settled; none_held = none_held }) k link at both

@@ -1,4 +1,4 @@
--- The test of settled links means what it says.
+-- The test whether a network has converged is right.
 use Rattle.std.proofs.Common.{◌≡◌, ◌⊎◌, List, [], ◌∷◌, Some, None, refl, sym, ap, ap₂, ◌∙◌, Bool, true, false, ◌&&◌}
 use Rattle.std.proofs.Common.{◌||◌, not, inl, inr, subst}
 use Rattle.std.specs.declared.option.Option.{Option}
@@ -18,6 +18,7 @@ use Rattle.pb_rstp.specs.Messages.{known}
 use Rattle.pb_rstp.specs.Tree.{offered, StandsAt, LeadsTo, IsSettledLink, Place, place_in, place_at, stores_test}
 use Rattle.pb_rstp.specs.Tree.{leads_test, is_settled_between, is_settled, TestTells}
 
+-- if the test of one end passes, that end leads to the other
 leads : (m : Machine) (p q : Port) → leads_test m p q ≡ true → LeadsTo m p q
 leads m p q e =
     let outer = and_parts (is_designated p.role && not (is_designated q.role)) (stores_test q.info (offered m p)) e in
@@ -29,6 +30,7 @@ leads m p q e =
     by_info None stored t = cc
     by_info (Some info) stored t = (info, stored, same-one (known info) (offered m p) t)
 
+-- if the test of a link with enabled ends passes, one end leads to the other
 one_leads : (m n : Machine) (p q : Port) → p.port_enabled ≡ true → q.port_enabled ≡ true
     → (not (p.port_enabled && q.port_enabled) || leads_test m p q || leads_test n q p) ≡ true
     → LeadsTo m p q ⊎ LeadsTo n q p
@@ -44,18 +46,21 @@ one_leads m n p q p_up q_up e = by_test (leads_test m p q) (leads_test n q p) re
     by_test false true es et o = inr (leads n q p et)
     by_test false false es et o = cc
 
+-- the bridge and the port at a link end are found
 placed_at : (machines : List Machine) (e : End) (m : Machine) (p : Port) → StandsAt machines e m p
     → place_at machines e ≡ Some (record { machine = m; port = p })
 placed_at machines e m p s =
     ap (λ o. option_and_then (place_in e.port) o) s.machine
     ∙ ap (λ o. option_map (λ (q : Port). let place : Place = record { machine = m; port = q } in place) o) s.port
 
+-- a link that passes the test has converged
 settled_link : (machines : List Machine) (link : LinkPlan)
     → is_settled_between (place_at machines link.a) (place_at machines link.b) ≡ true → IsSettledLink machines link
 settled_link machines link e m n p q here there p_up q_up =
     one_leads m n p q p_up q_up
     (sym (ap₂ is_settled_between (placed_at machines link.a m p here) (placed_at machines link.b n q there)) ∙ e)
 
+-- if the test of a network passes, each link has converged
 pub settled_links : (plan : Plan) (machines : List Machine) → is_settled plan machines ≡ true
     → AllByRecursion (IsSettledLink machines) plan.links
 settled_links plan machines e = go plan.links e
@@ -69,8 +74,9 @@ settled_links plan machines e = go plan.links e
         (list_all (λ link. is_settled_between (place_at machines link.a) (place_at machines link.b)) ls) e in
         (settled_link machines l h.0, go ls h.1)
 
--- And what it means, it says.
+-- The other direction.
 
+-- if one end leads to the other, its test passes
 leads_passes : (m : Machine) (p q : Port) → LeadsTo m p q → leads_test m p q ≡ true
 leads_passes m p q leads =
     let stores : stores_test q.info (offered m p) ≡ true =
@@ -78,7 +84,7 @@ leads_passes m p q leads =
     ∙ ap (same (known leads.stores.0)) (sym leads.stores.2) ∙ same-self (known leads.stores.0) in
     ap₂ (λ a b. a && b) (ap₂ (λ a b. a && not b) leads.here leads.there) stores
 
--- what stands at an end is its place
+-- the bridge and the port that are found are those at the link end
 place_stands : (machines : List Machine) (e : End) (a : Place) → place_at machines e ≡ Some a
     → StandsAt machines e a.machine a.port
 place_stands machines e a is = by_machine (numbered machines e.bridge) refl is
@@ -98,6 +104,7 @@ place_stands machines e a is = by_machine (numbered machines e.bridge) refl is
     by_machine None at is = cc
     by_machine (Some m) at is = by_port m at (port_of m.ports e.port) refl is
 
+-- a link that has converged passes the test
 link_passes : (machines : List Machine) (link : LinkPlan) → IsSettledLink machines link
     → is_settled_between (place_at machines link.a) (place_at machines link.b) ≡ true
 link_passes machines link settled = by_places (place_at machines link.a) (place_at machines link.b) refl refl
@@ -123,6 +130,7 @@ link_passes machines link settled = by_places (place_at machines link.a) (place_
         (place_stands machines link.b b eb)
     by_places _ _ ea eb = refl
 
+-- if each link has converged, the test of the network passes
 pub links_pass : (plan : Plan) (machines : List Machine) → AllByRecursion (IsSettledLink machines) plan.links
     → is_settled plan machines ≡ true
 links_pass plan machines settled = go plan.links settled
@@ -132,5 +140,6 @@ links_pass plan machines settled = go plan.links settled
     go [] h = refl
     go (l ∷ ls) h = ap₂ (λ a b. a && b) (link_passes machines l h.0) (go ls h.1)
 
+-- the test passes if and only if each link has converged
 pub test_tells : TestTells
 test_tells plan machines = (settled_links plan machines, links_pass plan machines)

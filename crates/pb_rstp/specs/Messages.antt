@@ -1,4 +1,4 @@
--- The BPDUs that a bridge sends, and the information that it stores from received ones.
+-- The BPDUs that a bridge sends, and what it stores of received ones.
 use Rattle.std.specs.Prelude.{ℕ, ◌+◌, ◌*◌, ◌/◌, ◌<◌, Bool, true, List, [], ◌∷◌, Some, None, min, max, nat_lt, nat_le, ◌==◌, ◌&&◌, ◌||◌, not}
 use Rattle.std.specs.declared.option.Option.{Option}
 use Rattle.std.proofs.Common.{lit<}
@@ -14,7 +14,7 @@ use Rattle.pb_rstp.specs.declared.vector.Vector.{Vector}
 use Rattle.pb_rstp.specs.declared.role.Role.{Role}
 use Rattle.pb_rstp.specs.declared.role.Role.TheVariants.{Disabled, Root, Designated, Alternate, Backup}
 
--- a role in the flags (clause 9.3.3)
+-- the Port Role in the flags of a BPDU (clause 9.3.3)
 abbrev pub role_code : Role → ℕ
 role_code Disabled = 0
 role_code Alternate = 1
@@ -22,6 +22,7 @@ role_code Backup = 1
 role_code Root = 2
 role_code Designated = 3
 
+-- a Port Role fits two bits
 pub role_code-fits : (role : Role) → role_code role < 4
 role_code-fits Disabled = lit< tt
 role_code-fits Alternate = lit< tt
@@ -29,7 +30,8 @@ role_code-fits Backup = lit< tt
 role_code-fits Root = lit< tt
 role_code-fits Designated = lit< tt
 
--- the root's own times, or the stored ones with a message_age one second higher (clause 17.21.25)
+-- the times of a bridge's BPDUs: the root's own, or the stored ones with a Message Age that is one second higher
+-- (clause 17.21.25)
 abbrev pub times_by : Option Info → Times
 times_by None = record { message_age = 0; max_age = 5120; hello_time = 512; forward_delay = 3840 }
 times_by (Some info) = record {
@@ -39,13 +41,13 @@ times_by (Some info) = record {
   forward_delay = info.forward_delay;
 }
 
--- the times are the same
+-- all four times are equal
 abbrev pub is_same_times : Times → Times → Bool
 is_same_times s t =
     s.message_age == t.message_age && s.max_age == t.max_age && s.hello_time == t.hello_time
     && s.forward_delay == t.forward_delay
 
--- the BPDU of a port, by the bridge, its root vector and its times (clause 17.21.20)
+-- the BPDU of a port, by the bridge's identifier, its root priority vector and its times (clause 17.21.20)
 abbrev pub message : ℕ → Vector → Times → Port → Bpdu
 message id root times p = record {
   change = nat_lt 0 p.tc_while;
@@ -65,33 +67,36 @@ message id root times p = record {
   role_fits = role_code-fits p.role;
 }
 
+-- the BPDU of a port, by the ports of its bridge (clause 17.21.20)
 abbrev pub message_of : ℕ → List Port → Port → Bpdu
 message_of id ports p = message id (root_vector id ports) (times_by (root_info ports)) p
 
--- a BPDU of a Designated port
+-- the BPDU comes from a Designated port
 abbrev pub is_from_designated : Bpdu → Bool
 is_from_designated m = m.role == 3
 
--- a BPDU of a Root, Alternate or Backup port that agrees
+-- the BPDU comes from a Root, Alternate or Backup port and has the agreement flag (clause 17.21.9)
 abbrev pub is_agreement : Bpdu → Bool
 is_agreement m = (m.role == 1 || m.role == 2) && m.agreement
 
+-- the message priority vector of a BPDU, without the receiving port (clause 17.6)
 abbrev pub told : Bpdu → List ℕ
 told m = m.root ∷ m.cost ∷ m.bridge ∷ m.port ∷ []
 
+-- the same four components of what a port stores
 abbrev pub known : Info → List ℕ
 known info = info.root ∷ info.cost ∷ info.bridge ∷ info.port ∷ []
 
--- m is better than what is stored, or comes from where that came from (clause 17.21.8)
+-- the BPDU is better than what the port stores, or comes from the port that sent that (clause 17.21.8)
 abbrev pub is_superior : Bpdu → Option Info → Bool
 is_superior m None = true
 is_superior m (Some info) = is_before (told m) (known info) || (m.bridge == info.bridge && m.port == info.port)
 
--- m is not too old to be kept (clause 17.21.23)
+-- the Message Age of the BPDU, one second higher, is at most its Max Age (clause 17.21.23)
 abbrev pub is_young : Bpdu → Bool
 is_young m = nat_le (m.age + 256) m.max_age
 
--- the information that a port stores from m, for three times its Hello Time (clause 17.21.23)
+-- what a port stores of a BPDU, and for how long: three times its Hello Time (clause 17.21.23)
 abbrev pub info_of : Bpdu → Info
 info_of m = record {
   root = m.root;

@@ -1,7 +1,7 @@
--- What stands at the ends of links, as the code has it.
+-- The bridge and the port at an end of a link, as the code holds them.
 use Rattle.pb_rstp.specs.Tree.{Place}
 use Rattle.pb_rstp.specs.declared.network.Standing.{Standing}
 
--- the machine and its port
+-- the bridge and the port at an end of a link
 abbrev pub place_of : Standing → Place
 place_of s = record { machine = s.bridge.now; port = s.port }

@@ -14,7 +14,7 @@ use Rattle.pb_service.specs.declared.port_spec.PortSpec.{PortSpec}
 use Rattle.pb_service.specs.declared.section.Section.TheVariants.{Bridge, Link, Service, Port, Event}
 use Rattle.pb_service.specs.Keys.{IsAccepted, first_unknown}
 use Rattle.pb_service.specs.Formats.{top_keys, network_keys, bridge_keys, link_keys, service_keys, event_keys}
-use Rattle.pb_service.specs.Told.{rows_of, table_told, spanning_of}
+use Rattle.pb_service.specs.Told.{rows_of, table_told, spanning_of, queues_of}
 use Rattle.pb_service.specs.Events.{IsEventOf}
 use Rattle.pb_service.specs.Clocks.{has_two_clocks, holds_forever, is_vainly_prompt}
 use Rattle.pb_service.specs.Tables.{number_at, text_at, prompt_told, limits_told, IsRead, IsReadPort, IsBridgeOf, IsLinkOf, IsServiceOf, IsCustomerOf, IsPortSpecOf}
@@ -33,6 +33,7 @@ pub record TellsNetwork (row : Members) (plan : Plan) : Type 0 where
   pub keys : IsAccepted network_keys row
   pub spanning : plan.spanning ≡ spanning_of (text_at row (codes "spanning"))
   pub prompt : plan.prompt ≡ prompt_told row
+  pub queues : plan.queues ≡ queues_of (text_at row (codes "queues"))
   pub not_vain : is_vainly_prompt plan.spanning plan.prompt ≡ false
   pub ageing : plan.ageing ≡ number_at row (codes "ageing") default_ageing 1000000
   pub ring : plan.ring ≡ number_at row (codes "ring") 64 4096

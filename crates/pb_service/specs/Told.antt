@@ -6,6 +6,8 @@ use Rattle.pb_frame.specs.Admission.{same}
 use Rattle.toml.specs.Data.{Data, Items, no_items, item, Members, no_members, as_array, as_bool, as_table, get_member}
 use Rattle.pb_lan.specs.declared.shape.PortState.{PortState}
 use Rattle.pb_lan.specs.declared.shape.PortState.TheVariants.{Discarding, Learning, Forwarding}
+use Rattle.pb_lan.specs.declared.plan.Queues.{Queues}
+use Rattle.pb_lan.specs.declared.plan.Queues.TheVariants.{PerPort, PerClass}
 use Rattle.pb_lan.specs.declared.plan.Spanning.{Spanning}
 use Rattle.pb_lan.specs.declared.plan.Spanning.TheVariants.{Fixed, Rstp}
 use Rattle.pb_service.specs.declared.port_spec.Stamp.{Stamp}
@@ -42,6 +44,10 @@ state_of text = if same text (codes "discarding") then Discarding else if same t
 
 abbrev pub spanning_of : List ℕ → Spanning
 spanning_of text = if same text (codes "rstp") then Rstp else Fixed
+
+-- a queue for each class if the text is `class`, and one for each port if it is any other
+abbrev pub queues_of : List ℕ → Queues
+queues_of text = if same text (codes "class") then PerClass else PerPort
 
 abbrev pub stamp_of : List ℕ → Stamp
 stamp_of text = if same text (codes "time") then Time else Ticks

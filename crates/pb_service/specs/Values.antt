@@ -9,7 +9,7 @@ use Rattle.pb_frame.specs.Hex.{is_digit, IsMacText}
 use Rattle.pb_lan.specs.Names.{is_name}
 use Rattle.toml.specs.Data.{Data, Items, no_items, item, as_str, as_integer, as_array, as_bool}
 use Rattle.pb_service.specs.declared.rule.Rule.{Rule}
-use Rattle.pb_service.specs.declared.rule.Rule.TheVariants.{Number, BridgePriority, PortPriority, Name, Address, Spanning, State, PortKind, Stamp, Path, Losses, Names, Frames, Flag}
+use Rattle.pb_service.specs.declared.rule.Rule.TheVariants.{Number, BridgePriority, PortPriority, Name, Address, Spanning, Queues, State, PortKind, Stamp, Path, Losses, Names, Frames, Flag}
 
 -- the number of an integer that isn't negative
 abbrev pub to_natural : ℤ → Option ℕ
@@ -79,6 +79,7 @@ IsAllowed PortPriority d = is_natural (λ n. n % 16 == 0 && nat_le n 240) d ≡ 
 IsAllowed Name d = is_text is_name d ≡ true
 IsAllowed Address d = IsAddress (text_in d)
 IsAllowed Spanning d = is_text (λ t. same t (codes "fixed") || same t (codes "rstp")) d ≡ true
+IsAllowed Queues d = is_text (λ t. same t (codes "port") || same t (codes "class")) d ≡ true
 IsAllowed State d = is_text (λ t. same t (codes "discarding") || (same t (codes "learning") || same t (codes "forwarding"))) d ≡ true
 IsAllowed PortKind d = is_text (λ t. same t (codes "memory") || (same t (codes "capture") || same t (codes "socket"))) d ≡ true
 IsAllowed Stamp d = is_text (λ t. same t (codes "ticks") || same t (codes "time")) d ≡ true

@@ -57,6 +57,7 @@ fn file_of(alloc: Global, document: &Table) -> Result<PlanFile, PlanFault>
         customers: Seq::from_vec(customers),
         spanning: network.spanning,
         prompt: network.prompt,
+        queues: network.queues,
         ageing: network.ageing,
         ring: network.ring,
         steps: network.steps,

@@ -47,7 +47,7 @@ macro_rules! port_keys {
 }
 
 /// The keys of the network.
-static NETWORK: [Key; 9] = [
+static NETWORK: [Key; 10] = [
     optional!("spanning", Rule::Spanning),
     optional!("ageing", 10..=1_000_000),
     optional!("ring", 1..=4096),
@@ -57,6 +57,7 @@ static NETWORK: [Key; 9] = [
     optional!("tick_ms", 0..=60_000),
     optional!("hold", 0..=1_000_000),
     optional!("prompt", Rule::Flag),
+    optional!("queues", Rule::Queues),
 ];
 
 /// The keys of a bridge.

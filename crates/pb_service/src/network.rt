@@ -16,9 +16,9 @@ use crate::formats::network_keys;
 use crate::key_fault::KeyFault;
 use crate::row::{check_keys, told};
 use crate::section::KeyTable;
-use crate::told::{flag_at, number_at, spanning_of, text_at, value_at};
+use crate::told::{flag_at, number_at, queues_of, spanning_of, text_at, value_at};
 use pb_frame::Text;
-use pb_lan::{DEFAULT_AGEING, Limits, Spanning};
+use pb_lan::{DEFAULT_AGEING, Limits, Queues, Spanning};
 use std::alloc::Global;
 use toml::Table;
 
@@ -27,6 +27,7 @@ use toml::Table;
 pub(crate) struct Network {
     pub spanning: Spanning,
     pub prompt: bool,
+    pub queues: Queues,
     pub ageing: u32,
     pub ring: u16,
     pub steps: u64,
@@ -114,6 +115,7 @@ fn network_of(alloc: Global, row: &Table) -> Result<Network, PlanFault>
     Ok(Network {
         spanning,
         prompt,
+        queues: queues_of(text_at(row, "queues")),
         ageing: number_at(row, "ageing", DEFAULT_AGEING as u64, 1_000_000) as u32,
         ring: number_at(row, "ring", 64, 4096) as u16,
         steps: number_at(row, "steps", u64::MAX, u64::MAX),

@@ -15,6 +15,8 @@ pub(crate) enum Rule {
     Address,
     /// How the states of ports are decided: `fixed` or `rstp`.
     Spanning,
+    /// What the capacity of a queue counts: `port` or `class`.
+    Queues,
     /// The state of a port: `discarding`, `learning` or `forwarding`.
     State,
     /// The kind of a customer port: `memory`, `capture` or `socket`.

@@ -4,14 +4,14 @@ ghost use Rattle.std.specs.Prelude.{◌≡◌, ◌<◌, ◌≤◌, ◌^◌, leng
 ghost use Rattle.toml.specs.Data.{get_member};
 ghost use Rattle.toml.specs.View.{view, items_view, table_view};
 ghost use Rattle.pb_service.specs.Told.{number_told, flag_told, text_told, items_told, state_of, spanning_of};
-ghost use Rattle.pb_service.specs.Told.{naturals_in, number_from, listed_from, has_key, stamp_of};
+ghost use Rattle.pb_service.specs.Told.{naturals_in, number_from, listed_from, has_key, queues_of, stamp_of};
 ghost use Rattle.pb_service.specs.declared.fault.PlanFault.TheVariants.{Memory as memory_fault};
 
 use crate::fault::PlanFault;
 use crate::port_spec::Stamp;
 use crate::values::{has_text, natural_of, text_in};
 use pb_frame::{Seq, Text};
-use pb_lan::{PortState, Spanning};
+use pb_lan::{PortState, Queues, Spanning};
 use std::alloc::Global;
 use toml::{Table, Value};
 
@@ -108,6 +108,17 @@ pub(crate) fn spanning_of(text: &str) -> Spanning
         Spanning::Rstp
     } else {
         Spanning::Fixed
+    }
+}
+
+/// Returns what the capacity of a queue counts: one class if the text is `class`, else all items of the port.
+pub(crate) fn queues_of(text: &str) -> Queues
+    ensures { result ≡ queues_of text.now }
+{
+    if text == "class" {
+        Queues::PerClass
+    } else {
+        Queues::PerPort
     }
 }
 

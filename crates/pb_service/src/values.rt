@@ -130,6 +130,16 @@ fn is_spanning(value: &Value) -> bool
     }
 }
 
+/// Returns whether the value is `port` or `class`.
+fn is_queues(value: &Value) -> bool
+    ensures { result ≡ is_text (λ t. same t (codes "port") || same t (codes "class")) (view value.now) }
+{
+    match value.as_str() {
+        Some(text) => text == "port" || text == "class",
+        None => false,
+    }
+}
+
 /// Returns whether the value is `discarding`, `learning` or `forwarding`.
 fn is_state(value: &Value) -> bool
     ensures { result ≡ is_text (λ t. same t (codes "discarding")
@@ -280,6 +290,7 @@ pub(crate) fn is_of_kind(rule: Rule, value: &Value) -> bool
         Rule::Name
         | Rule::Address
         | Rule::Spanning
+        | Rule::Queues
         | Rule::State
         | Rule::PortKind
         | Rule::Stamp
@@ -298,6 +309,7 @@ pub(crate) fn is_allowed(rule: Rule, value: &Value) -> bool
         Rule::Name => is_name(value),
         Rule::Address => station(text_in(value)).is_some(),
         Rule::Spanning => is_spanning(value),
+        Rule::Queues => is_queues(value),
         Rule::State => is_state(value),
         Rule::PortKind => is_port_kind(value),
         Rule::Stamp => is_stamp(value),

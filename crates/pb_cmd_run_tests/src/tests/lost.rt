@@ -6,7 +6,9 @@ use bytes::Bytes;
 use pb_cmd_run::lost_of;
 use pb_frame::{Mac, Memory, Seq, Text};
 use pb_history::Tallies;
-use pb_lan::{BridgePlan, Item, NoRoom, Outcome, Plan, PortSet, Record, Refusals, Spanning, Step};
+use pb_lan::{
+    BridgePlan, Item, NoRoom, Outcome, Plan, PortSet, Queues, Record, Refusals, Spanning, Step,
+};
 use std::alloc::Global;
 use std::test::Fail;
 
@@ -32,6 +34,7 @@ fn alone(alloc: Global) -> Result<Plan, Memory>
         customers: Seq::from_vec(Vec::new(alloc)),
         spanning: Spanning::Rstp,
         prompt: false,
+        queues: Queues::PerPort,
         ageing: 300,
         ring: 64,
         steps: 1_000,

@@ -6,7 +6,7 @@ use super::sheet::Sheet;
 use pb_cmd_run::write_report;
 use pb_frame::{Memory, Seq};
 use pb_history::Tallies;
-use pb_lan::{Plan, Spanning, plan_is_sound};
+use pb_lan::{Plan, Queues, Spanning, plan_is_sound};
 use pb_run::{Ended, Ran};
 use std::alloc::Global;
 
@@ -21,6 +21,7 @@ fn nothing(alloc: Global) -> Plan
         customers: Seq::from_vec(Vec::new(alloc)),
         spanning: Spanning::Rstp,
         prompt: false,
+        queues: Queues::PerPort,
         ageing: 300,
         ring: 64,
         steps: 1,

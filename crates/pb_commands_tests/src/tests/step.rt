@@ -128,6 +128,65 @@ fn the_limit_of_steps_ends_a_run(rt: HostRuntime) -> Result<(), Fail> {
     Ok(())
 }
 
+/// A bridge with queues of two frames, and three customer ports of a service.
+const THREE: &str = r#"
+[[bridge]]
+name = "B1"
+address = "02-00-00-00-00-01"
+queue = 2
+
+[[service]]
+name = "red"
+vid = 100
+
+[[port]]
+name = "C1"
+bridge = "B1"
+port = 1
+service = "red"
+
+[[port]]
+name = "C2"
+bridge = "B1"
+port = 2
+service = "red"
+
+[[port]]
+name = "C3"
+bridge = "B1"
+port = 3
+service = "red"
+"#;
+
+/// Two broadcasts from port 2, of which port 3 sends one, and one from port 3. Then one of priority 7 from port 2.
+const FLOOD: &str = "\
+poll C2 ffffffffffff0200000001010800\nfeed C2\nreceive B1 2\n\
+poll C2 ffffffffffff0200000001010800\nfeed C2\nreceive B1 2\ntransmit B1 3\n\
+poll C3 ffffffffffff0200000002020800\nfeed C3\nreceive B1 3\n\
+poll C2 ffffffffffff02000000010188a8e0000800\nfeed C2\nreceive B1 2\n";
+
+/// The replies before the last line, and the report.
+const FLOODED: &str = "\
+polled C2 0\nfed\nrelayed 1 3\npolled C2 1\nfed\nrelayed 1 3\nsent ffffffffffff0200000001010800\n\
+polled C3 0\nfed\nrelayed 2 full 1\npolled C2 2\nfed\n";
+
+/// The report.
+const REPORT: &str = "port C1 entered 0 left 0 filtered 0\nport C2 entered 3 left 0 filtered 0\n\
+                      port C3 entered 1 left 0 filtered 0\nforest yes\n";
+
+#[test]
+fn a_queue_counts_a_port_or_a_class(rt: HostRuntime) -> Result<(), Fail> {
+    let alloc = rt.alloc();
+    let default = format!(in alloc; "{FLOODED}relayed 3 full 1\n{REPORT}")?;
+    drives(&rt, alloc, THREE, FLOOD, default.as_str());
+    let by_port = format!(in alloc; "[network]\nqueues = \"port\"\n{THREE}")?;
+    drives(&rt, alloc, by_port.as_str(), FLOOD, default.as_str());
+    let by_class = format!(in alloc; "[network]\nqueues = \"class\"\n{THREE}")?;
+    let want = format!(in alloc; "{FLOODED}relayed 1 3\n{REPORT}")?;
+    drives(&rt, alloc, by_class.as_str(), FLOOD, want.as_str());
+    Ok(())
+}
+
 /// Returns the plan of the two bridges with the rapid spanning tree.
 fn tree(alloc: Global) -> Result<String, Fail> {
     let mut plan = String::from_str(alloc, "[network]\nspanning = \"rstp\"\n")?;

@@ -1,7 +1,9 @@
 //! Plans of drafts.
 
 use super::draft::{Bridge, Draft, Joint, More, Service, Side, Site};
-use pb_lan::{BridgePlan, CustomerPlan, End, LinkPlan, Plan, PortState, Seq, ServicePlan, Text};
+use pb_lan::{
+    BridgePlan, CustomerPlan, End, LinkPlan, Plan, PortState, Queues, Seq, ServicePlan, Text,
+};
 use std::alloc::{AllocError, Global};
 
 /// Returns a name.
@@ -123,6 +125,7 @@ pub(super) fn plan_of(alloc: Global, draft: &Draft) -> Result<Plan, AllocError> 
         customers: customers(alloc, draft)?,
         spanning: draft.spanning,
         prompt: false,
+        queues: Queues::PerPort,
         ageing: draft.ageing,
         ring: draft.ring,
         steps: draft.steps,

@@ -68,6 +68,7 @@ fn moved(alloc: Global, states: &[(u8, PortState)], flushed: &[u8]) -> Result<Mo
         states,
         flushed,
         queued: Seq::from_vec(Vec::new(alloc)),
+        replaced: Seq::from_vec(Vec::new(alloc)),
         dropped: Seq::from_vec(Vec::new(alloc)),
     })
 }

@@ -41,6 +41,7 @@ fn moved(alloc: Global, port: u8, state: PortState) -> Result<Moved, AllocError>
         states,
         flushed: Seq::from_vec(Vec::new(alloc)),
         queued: Seq::from_vec(Vec::new(alloc)),
+        replaced: Seq::from_vec(Vec::new(alloc)),
         dropped,
     })
 }

@@ -3,7 +3,7 @@
 use super::draft::{Draft, Joint, Port, Site};
 use pb_frame::Memory;
 use pb_lan::{
-    BridgePlan, CustomerPlan, End, LinkPlan, Mac, Plan, PortState, Seq, ServicePlan, Text,
+    BridgePlan, CustomerPlan, End, LinkPlan, Mac, Plan, PortState, Queues, Seq, ServicePlan, Text,
 };
 use std::alloc::Global;
 
@@ -136,6 +136,7 @@ fn bare(alloc: Global, draft: &Draft) -> Plan {
         customers: Seq::from_vec(Vec::new(alloc)),
         spanning: draft.spanning,
         prompt: false,
+        queues: Queues::PerPort,
         ageing: 300,
         ring: draft.ring,
         steps: draft.steps,

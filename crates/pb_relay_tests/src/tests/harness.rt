@@ -97,6 +97,7 @@ fn holds(alloc: Global, bridge: &mut Bridge, row: Row) -> Result<bool, Fail> {
         Row::Shows { port, item } => shows(alloc, bridge, port, item),
         Row::Sends { port, item } => sends(alloc, bridge, port, item),
         Row::Ticks { queued, dropped } => Ok(ticks(bridge, queued, dropped)),
+        Row::Replaces { port, item } => Ok(replaces(bridge, port, &item.item(alloc)?)),
         Row::Passes(times) => Ok(passes(bridge, times)),
         Row::TickFails(fault) => Ok(bridge.tick() == Err(fault)),
         Row::ReserveFails(fault) => Ok(bridge.reserve_step() == Err(fault)),
@@ -259,10 +260,41 @@ fn ticks(bridge: &mut Bridge, queued: usize, dropped: &[(u8, NoRoom)]) -> bool {
     }
     match bridge.steps().last() {
         Some(Step::Tick { now: _, moved }) => {
-            moved.queued.len() == queued && moved.dropped.as_slice() == dropped
+            moved.queued.len() == queued
+                && moved.replaced.len() == 0
+                && moved.dropped.as_slice() == dropped
         }
         Some(_) => false,
         None => bridge.step_count() != 0,
+    }
+}
+
+/// Ticks the clock. Checks whether one BPDU is queued at a port, and takes the place of this one.
+fn replaces(bridge: &mut Bridge, port: u8, older: &Item) -> bool {
+    if bridge.tick().is_err() {
+        return false;
+    }
+    match bridge.steps().last() {
+        Some(Step::Tick { now: _, moved }) => {
+            is_one(moved.queued.as_slice(), port)
+                && is_this(moved.replaced.as_slice(), port, older)
+                && moved.dropped.len() == 0
+        }
+        Some(_) => false,
+        None => bridge.step_count() != 0,
+    }
+}
+
+/// Checks whether the list has one BPDU, at this port.
+fn is_one(bpdus: &[(u8, Item)], port: u8) -> bool {
+    bpdus.len() == 1 && bpdus[0].0 == port
+}
+
+/// Checks whether the list has this BPDU alone, at this port.
+fn is_this(bpdus: &[(u8, Item)], port: u8, bpdu: &Item) -> bool {
+    match bpdus.first() {
+        Some(first) => bpdus.len() == 1 && first.0 == port && first.1 == *bpdu,
+        None => false,
     }
 }
 

@@ -1,7 +1,8 @@
 //! The networks in which bridges are run.
 
 use pb_lan::{
-    BridgePlan, CustomerPlan, End, LinkPlan, Mac, Plan, PortState, Seq, ServicePlan, Spanning, Text,
+    BridgePlan, CustomerPlan, End, LinkPlan, Mac, Plan, PortState, Queues, Seq, ServicePlan,
+    Spanning, Text,
 };
 use std::alloc::{AllocError, Global};
 
@@ -16,6 +17,11 @@ pub enum Network {
     /// B1 and B2, joined from port 1 to port 1, with queues of this many items. Customers of red are at port 2 of each,
     /// and one of blue is at B2's port 3.
     TwoBridges {
+        spanning: Spanning,
+        queue: u16,
+    },
+    /// The same two bridges, with queues of this many items for each class.
+    TwoBridgesByClass {
         spanning: Spanning,
         queue: u16,
     },
@@ -37,6 +43,8 @@ struct Layout {
     bridges: &'static [(&'static str, u8)],
     /// The greatest number of items that wait at a port.
     queue: u16,
+    /// What that number counts.
+    queues: Queues,
     /// The name and the two ends of each link.
     links: &'static [(&'static str, Spot, Spot)],
     /// The name of each customer port, its local port, and the number of its service.
@@ -55,6 +63,7 @@ struct Layout {
 const ALONE: Layout = Layout {
     bridges: &[("B1", 1)],
     queue: 1,
+    queues: Queues::PerPort,
     links: &[],
     customers: &[("C1", (1, 1), 1), ("C2", (1, 2), 1), ("C3", (1, 3), 1)],
     spanning: Spanning::Fixed,
@@ -67,6 +76,7 @@ const ALONE: Layout = Layout {
 const PAIR: Layout = Layout {
     bridges: &[("B1", 1), ("B2", 2)],
     queue: 64,
+    queues: Queues::PerPort,
     links: &[("L1", (1, 1), (2, 1))],
     customers: &[("C1", (1, 2), 1), ("C2", (2, 2), 1), ("C3", (2, 3), 2)],
     spanning: Spanning::Fixed,
@@ -79,6 +89,7 @@ const PAIR: Layout = Layout {
 const ROW: Layout = Layout {
     bridges: &[("B1", 1), ("B2", 2), ("B3", 3)],
     queue: 64,
+    queues: Queues::PerPort,
     links: &[("L1", (1, 1), (2, 1)), ("L2", (2, 4), (3, 1))],
     customers: &[("C1", (2, 2), 1), ("C2", (2, 3), 1), ("C3", (2, 5), 2)],
     spanning: Spanning::Fixed,
@@ -102,6 +113,12 @@ impl Network {
                 queue,
                 ..PAIR
             },
+            Network::TwoBridgesByClass { spanning, queue } => Layout {
+                spanning,
+                queue,
+                queues: Queues::PerClass,
+                ..PAIR
+            },
             Network::Line { spanning, start } => Layout {
                 spanning,
                 start,
@@ -121,6 +138,7 @@ impl Layout {
             customers: self.customer_plans(alloc)?,
             spanning: self.spanning,
             prompt: false,
+            queues: self.queues,
             ageing: self.ageing,
             ring: 64,
             steps: self.steps,

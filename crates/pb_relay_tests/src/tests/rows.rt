@@ -82,6 +82,11 @@ pub enum Row {
         queued: usize,
         dropped: &'static [(u8, NoRoom)],
     },
+    /// The clock ticks. One BPDU is queued at a port, and takes the place of this one.
+    Replaces {
+        port: u8,
+        item: Piece,
+    },
     /// The clock ticks this many times, and no BPDU is queued or dropped.
     Passes(u8),
     /// The clock can't tick.

@@ -2,7 +2,7 @@
 
 use super::two::agreed;
 use super::{PROPOSAL, first_with, heard, with_one_port};
-use pb_lan::{BridgePlan, End, LinkPlan, Mac, Plan, PortState, Seq, Spanning, Text};
+use pb_lan::{BridgePlan, End, LinkPlan, Mac, Plan, PortState, Queues, Seq, Spanning, Text};
 use pb_rstp::{Rstp, is_settled};
 use std::alloc::{AllocError, Global};
 use std::test::Fail;
@@ -72,6 +72,7 @@ pub(crate) fn plan(alloc: Global, joints: &[Joint]) -> Result<Plan, AllocError> 
         customers: Seq::from_vec(Vec::new(alloc)),
         spanning: Spanning::Rstp,
         prompt: false,
+        queues: Queues::PerPort,
         ageing: 300,
         ring: 64,
         steps: 1_000_000,

@@ -3,7 +3,7 @@
 use super::draft::{At, Draft, Joint, Site};
 use pb_frame::Memory;
 use pb_lan::{
-    BridgePlan, CustomerPlan, End, LinkPlan, Mac, Plan, PortState, Seq, ServicePlan, Text,
+    BridgePlan, CustomerPlan, End, LinkPlan, Mac, Plan, PortState, Queues, Seq, ServicePlan, Text,
 };
 use std::alloc::Global;
 
@@ -107,6 +107,7 @@ pub(super) fn plan_of(alloc: Global, draft: &Draft) -> Result<Plan, Memory> {
         customers: customers(alloc, draft)?,
         spanning: draft.spanning,
         prompt: false,
+        queues: Queues::PerPort,
         ageing: 300,
         ring: draft.ring,
         steps: draft.steps,

@@ -4,8 +4,8 @@ use bytes::Bytes;
 use pb_frame::{Held, Memory};
 use pb_history::Tallies;
 use pb_lan::{
-    BridgePlan, Item, Learnt, Mac, Moved, NoRoom, Outcome, Plan, PortSet, Reason, Record, Refusals,
-    Seq, Spanning, Step, Text,
+    BridgePlan, Item, Learnt, Mac, Moved, NoRoom, Outcome, Plan, PortSet, Queues, Reason, Record,
+    Refusals, Seq, Spanning, Step, Text,
 };
 use pb_run_losses::put_losses;
 use std::alloc::Global;
@@ -164,6 +164,7 @@ fn moved_of(alloc: Global, ports: &[(u8, NoRoom)]) -> Result<Moved, Memory> {
         states: Seq::from_vec(Vec::new(alloc)),
         flushed: Seq::from_vec(Vec::new(alloc)),
         queued: Seq::from_vec(Vec::new(alloc)),
+        replaced: Seq::from_vec(Vec::new(alloc)),
         dropped: Seq::from_vec(dropped),
     })
 }
@@ -316,6 +317,7 @@ fn plan_of(alloc: Global) -> Result<Plan, Memory> {
         customers: Seq::from_vec(Vec::new(alloc)),
         spanning: Spanning::Fixed,
         prompt: false,
+        queues: Queues::PerPort,
         ageing: 300,
         ring: 1,
         steps: 1000,

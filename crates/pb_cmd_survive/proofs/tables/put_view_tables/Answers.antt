@@ -14,7 +14,8 @@ loop-place-preserved c =
     let later = zip (drop (i + 1) old) (drop (i + 1) new) in
     let before : i < length old = omega (arith, c.loop-place-test.true, c.min-place-end.ensures) in
     let now : i < length new = omega (arith, c.loop-place-test.true, c.min-place-end.ensures) in
-    text_more (view_table c.args.plan.now c.args.criteria c.args.failure) (string_bytes c.args.out.now) (string_bytes c.loop-place.out)
+    text_more (view_table c.args.plan.now c.args.criteria c.args.failure) (string_bytes c.args.out.now)
+    (string_bytes c.loop-place.out)
     (string_bytes c.put_view_table.new.out)
     (was, is) (zip (drop i old) (drop i new)) later (zip old new)
     (zip_there old new i was is before now
@@ -28,5 +29,6 @@ returns c =
     let new = c.args.new.now in
     let i = c.loop-place.place in
     let past : min (length old) (length new) ≤ i = omega (arith, c.loop-place-test.false, c.min-place-end.ensures) in
-    text_end (view_table c.args.plan.now c.args.criteria c.args.failure) (string_bytes c.args.out.now) (string_bytes c.loop-place.out)
+    text_end (view_table c.args.plan.now c.args.criteria c.args.failure) (string_bytes c.args.out.now)
+    (string_bytes c.loop-place.out)
     (zip (drop i old) (drop i new)) (zip old new) (zip_past old new i past) c.loop-place.invariant

@@ -16,6 +16,8 @@ pub(super) const INIT: &str = r#"# A starter plan for pbnet. If this is the file
 #prompt = true
 #tick_ms = 10
 #hold = 200
+# With this key each traffic class of a port has a queue of its own:
+#queues = "class"
 
 # The bridges, each with an address and the ports 1 to 16, and the links between them.
 

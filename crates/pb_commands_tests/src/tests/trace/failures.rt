@@ -23,12 +23,12 @@ settled no ticks 1
 in ffffffffffff02000000010108004142: polled C1 0
   B1 2 from C1, red vid 100 priority 0, source learnt, flooded: relayed 1 3
     B1 1 to L1, tag 88a80064 added
-    L1 ab: taken 6
+    L1 ab: taken 5
     B2 1 from L1, red vid 100 priority 0, source learnt, flooded: relayed 2
       B2 2 to C2, tag removed
       C2: delivered ffffffffffff02000000010108004142
     B1 3 to L2, tag 88a80064 added
-    L2 ab: taken 6
+    L2 ab: taken 4
     B2 3 from L2, red vid 100 priority 0: filtered not-forwarding
 delivered at C2; refused 1; lost 0
 ";

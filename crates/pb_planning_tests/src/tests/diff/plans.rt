@@ -176,7 +176,8 @@ better: 0 of 3 failures; worse: 2 of 3 failures; with nothing down: better
 ";
 
 /// The same with other values, and in another order.
-pub(super) const ALTERED: &str = "network = { ageing = 400, ring = 32, steps = 1000 }
+pub(super) const ALTERED: &str =
+    "network = { queues = 'class', ageing = 400, ring = 32, steps = 1000 }
 bridge = [
   { name = 'C', address = '02-00-00-00-00-0a', priority = 4096, queue = 32 },
   { name = 'A', address = '02-00-00-00-00-01' },
@@ -196,7 +197,8 @@ port = [
 ";
 
 /// To other values.
-pub(super) const ALTERING: &str = "network: ageing: 300 -> 400
+pub(super) const ALTERING: &str = "network: queues: port -> class
+network: ageing: 300 -> 400
 network: ring: 64 -> 32
 network: steps: 18446744073709551615 -> 1000
 bridge C: address: 02-00-00-00-00-03 -> 02-00-00-00-00-0A

@@ -113,7 +113,7 @@ accepted link L4 down: settled ticks 2 forest yes\n\
 \x20 service red: C1 | C2\n\
 checked 4 links\n\
 3 of 4 failures disconnect nothing\n\
-converges within 2 ticks\n\
+converges within 3 ticks\n\
 1 of 4 failures are accepted\n\
 survives every failure that is not accepted\n";
 
@@ -127,7 +127,7 @@ link L4 down: settled ticks 2 forest yes\n\
 \x20 service red: C1 | C2\n\
 checked 4 links\n\
 3 of 4 failures disconnect nothing\n\
-converges within 2 ticks\n\
+converges within 3 ticks\n\
 1 of 4 failures disconnect a service\n";
 
 /// The same, with the acceptance of another service.
@@ -140,7 +140,7 @@ link L4 down: settled ticks 2 forest yes\n\
 \x20 service red: C1 | C2\n\
 checked 4 links\n\
 3 of 4 failures disconnect nothing\n\
-converges within 2 ticks\n\
+converges within 3 ticks\n\
 1 of 4 failures disconnect a service\n\
 stale acceptance: link L4 service blue\n";
 
@@ -152,7 +152,7 @@ nothing down: settled ticks 2 forest yes\n\
 healthy with nothing down\n\
 checked 5 links\n\
 5 of 5 failures disconnect nothing\n\
-converges within 2 ticks\n\
+converges within 3 ticks\n\
 stale acceptance: link L4\n\
 untried acceptance: bridge B4 service red\n\
 untried acceptance: links L4 L5\n\
@@ -220,7 +220,7 @@ nothing down: settled ticks 2 forest yes\n\
 healthy with nothing down\n\
 checked 4 links, 4 bridges\n\
 8 of 8 failures disconnect nothing\n\
-converges within 2 ticks\n\
+converges within 3 ticks\n\
 untried acceptance: link L4\n\
 stale acceptance: bridge B4 service blue\n\
 survives every single failure\n";

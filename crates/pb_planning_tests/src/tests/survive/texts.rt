@@ -9,7 +9,7 @@ nothing down: settled ticks 2 forest yes\n\
 healthy with nothing down\n\
 checked 6 links\n\
 6 of 6 failures disconnect nothing\n\
-converges within 4 ticks\n\
+converges within 5 ticks\n\
 survives every single failure\n";
 
 /// A ring: without two links two arcs remain.
@@ -19,33 +19,33 @@ nothing down: settled ticks 2 forest yes\n\
 healthy with nothing down\n\
 links L1 L2 down: settled ticks 3 forest yes\n\
 \x20 service red: C1 C3 C4 C5 C6 | C2\n\
-links L1 L3 down: settled ticks 2 forest yes\n\
+links L1 L3 down: settled ticks 3 forest yes\n\
 \x20 service red: C1 C4 C5 C6 | C2 C3\n\
-links L1 L4 down: settled ticks 3 forest yes\n\
+links L1 L4 down: settled ticks 5 forest yes\n\
 \x20 service red: C1 C5 C6 | C2 C3 C4\n\
-links L1 L5 down: settled ticks 4 forest yes\n\
+links L1 L5 down: settled ticks 7 forest yes\n\
 \x20 service red: C1 C6 | C2 C3 C4 C5\n\
-links L1 L6 down: settled ticks 4 forest yes\n\
+links L1 L6 down: settled ticks 9 forest yes\n\
 \x20 service red: C1 | C2 C3 C4 C5 C6\n\
 links L2 L3 down: settled ticks 2 forest yes\n\
 \x20 service red: C1 C2 C4 C5 C6 | C3\n\
-links L2 L4 down: settled ticks 2 forest yes\n\
+links L2 L4 down: settled ticks 3 forest yes\n\
 \x20 service red: C1 C2 C5 C6 | C3 C4\n\
-links L2 L5 down: settled ticks 3 forest yes\n\
+links L2 L5 down: settled ticks 5 forest yes\n\
 \x20 service red: C1 C2 C6 | C3 C4 C5\n\
-links L2 L6 down: settled ticks 9 forest yes\n\
+links L2 L6 down: settled ticks 4 forest yes\n\
 \x20 service red: C1 C2 | C3 C4 C5 C6\n\
 links L3 L4 down: settled ticks 2 forest yes\n\
 \x20 service red: C1 C2 C3 C5 C6 | C4\n\
 links L3 L5 down: settled ticks 3 forest yes\n\
 \x20 service red: C1 C2 C3 C6 | C4 C5\n\
-links L3 L6 down: settled ticks 5 forest yes\n\
+links L3 L6 down: settled ticks 3 forest yes\n\
 \x20 service red: C1 C2 C3 | C4 C5 C6\n\
 links L4 L5 down: settled ticks 2 forest yes\n\
 \x20 service red: C1 C2 C3 C4 C6 | C5\n\
 links L4 L6 down: settled ticks 3 forest yes\n\
 \x20 service red: C1 C2 C3 C4 | C5 C6\n\
-links L5 L6 down: settled ticks 2 forest yes\n\
+links L5 L6 down: settled ticks 3 forest yes\n\
 \x20 service red: C1 C2 C3 C4 C5 | C6\n\
 checked 6 links, 15 pairs\n\
 6 of 21 failures disconnect nothing\n\
@@ -59,7 +59,7 @@ nothing down: settled ticks 2 forest yes\n\
 healthy with nothing down\n\
 checked 6 links, 6 bridges\n\
 12 of 12 failures disconnect nothing\n\
-converges within 4 ticks\n\
+converges within 9 ticks\n\
 survives every single failure\n";
 
 /// A ring, with the ports of a failed bridge: each is alone.
@@ -67,7 +67,7 @@ pub(super) const OWN: &str = "\
 nothing down: settled ticks 2 forest yes\n\
 \x20 service red: C1 C2 C3 C4 C5 C6\n\
 healthy with nothing down\n\
-bridge B1 down: settled ticks 4 forest yes\n\
+bridge B1 down: settled ticks 9 forest yes\n\
 \x20 service red: C1 | C2 C3 C4 C5 C6\n\
 bridge B2 down: settled ticks 3 forest yes\n\
 \x20 service red: C1 C3 C4 C5 C6 | C2\n\
@@ -77,11 +77,11 @@ bridge B4 down: settled ticks 2 forest yes\n\
 \x20 service red: C1 C2 C3 C5 C6 | C4\n\
 bridge B5 down: settled ticks 2 forest yes\n\
 \x20 service red: C1 C2 C3 C4 C6 | C5\n\
-bridge B6 down: settled ticks 2 forest yes\n\
+bridge B6 down: settled ticks 3 forest yes\n\
 \x20 service red: C1 C2 C3 C4 C5 | C6\n\
 checked 6 links, 6 bridges\n\
 6 of 12 failures disconnect nothing\n\
-converges within 4 ticks\n\
+converges within 9 ticks\n\
 6 of 12 failures disconnect a service\n";
 
 /// A line: without the middle bridge the ports of the outer ones are disconnected. The groups show its own ports too.
@@ -119,14 +119,14 @@ pub(super) const LINE: &str = "\
 nothing down: settled ticks 2 forest yes\n\
 \x20 service red: C1 C2 C3 C4\n\
 healthy with nothing down\n\
-link L1 down: settled ticks 4 forest yes\n\
+link L1 down: settled ticks 5 forest yes\n\
 \x20 service red: C1 | C2 C3 C4\n\
-link L2 down: settled ticks 2 forest yes\n\
+link L2 down: settled ticks 3 forest yes\n\
 \x20 service red: C1 C2 | C3 C4\n\
 link L3 down: settled ticks 2 forest yes\n\
 \x20 service red: C1 C2 C3 | C4\n\
 checked 3 links\n\
-converges within 4 ticks\n\
+converges within 5 ticks\n\
 3 of 3 failures disconnect a service\n";
 
 /// A line, from its second port.
@@ -134,14 +134,14 @@ pub(super) const FROM: &str = "\
 nothing down: settled ticks 2 forest yes\n\
 \x20 service red: C1 C2 C3 C4\n\
 healthy with nothing down\n\
-link L1 down: settled ticks 4 forest yes\n\
+link L1 down: settled ticks 5 forest yes\n\
 \x20 C2 cut off from: C1\n\
-link L2 down: settled ticks 2 forest yes\n\
+link L2 down: settled ticks 3 forest yes\n\
 \x20 C2 cut off from: C3 C4\n\
 link L3 down: settled ticks 2 forest yes\n\
 \x20 C2 cut off from: C4\n\
 checked 3 links\n\
-converges within 4 ticks\n\
+converges within 5 ticks\n\
 3 of 3 failures disconnect a service\n";
 
 /// Two links: one is enough.
@@ -237,11 +237,11 @@ nothing down: settled ticks 2 forest yes\n\
 \x20 service red: C1 C2\n\
 \x20 service blue: C3 C4\n\
 healthy with nothing down\n\
-link L1 down: settled ticks 2 forest yes\n\
+link L1 down: settled ticks 3 forest yes\n\
 \x20 service blue: C3 | C4\n\
 checked 3 links\n\
 2 of 3 failures disconnect nothing\n\
-converges within 2 ticks\n\
+converges within 3 ticks\n\
 1 of 3 failures disconnect a service\n";
 
 /// The standard's network: each link is redundant.
@@ -260,16 +260,15 @@ nothing down: settled ticks 2 forest yes\n\
 \x20 service red: C1 C2 C3 C4 C5 C6\n\
 healthy with nothing down\n\
 link L1 down: not settled ticks 2 forest yes\n\
-\x20 service red: C1 C4 C5 C6 | C2 | C3\n\
+\x20 service red: C1 C5 C6 | C2 C3 C4\n\
 link L2 down: not settled ticks 2 forest yes\n\
-\x20 service red: C1 C2 C4 C5 C6 | C3\n\
+link L5 down: not settled ticks 2 forest yes\n\
 link L6 down: not settled ticks 2 forest yes\n\
-\x20 service red: C1 C2 C3 C4 | C5 | C6\n\
 checked 6 links\n\
-3 of 6 failures disconnect nothing\n\
+5 of 6 failures disconnect nothing\n\
 converges within 2 ticks\n\
-3 of 6 failures disconnect a service\n\
-3 of 6 failures do not converge\n";
+1 of 6 failures disconnect a service\n\
+4 of 6 failures do not converge\n";
 
 /// A ring whose bridges tick once, and do not converge with nothing down either.
 pub(super) const UNREADY: &str = "\

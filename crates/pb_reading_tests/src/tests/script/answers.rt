@@ -28,6 +28,7 @@ fn moved(alloc: Global) -> Moved {
         states: Seq::from_vec(Vec::new(alloc)),
         flushed: Seq::from_vec(Vec::new(alloc)),
         queued: Seq::from_vec(Vec::new(alloc)),
+        replaced: Seq::from_vec(Vec::new(alloc)),
         dropped: Seq::from_vec(Vec::new(alloc)),
     }
 }

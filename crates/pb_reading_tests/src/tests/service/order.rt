@@ -8,6 +8,12 @@ use std::alloc::Global;
 const FILES: &[(&str, &str)] = &[
     ("zebra = 1\nnetwork = 1", "6 unknown zebra"),
     ("[network]\nring = 0\nageing = 1", "5 range network.ageing"),
+    ("[network]\nqueues = \"Class\"", "5 range network.queues"),
+    ("[network]\nqueues = 8", "4 kind network.queues"),
+    (
+        "[network]\nqueues = \"\"\nhold = -1",
+        "5 range network.hold",
+    ),
     (
         "[network]\nring = 0\nageing = \"1\"",
         "4 kind network.ageing",

@@ -8,7 +8,8 @@ use super::NETWORK;
 use bytes::Bytes;
 use pb_frame::Text;
 use pb_lan::{
-    BridgePlan, CustomerPlan, End, LinkPlan, Mac, Plan, PortState, Seq, ServicePlan, Spanning,
+    BridgePlan, CustomerPlan, End, LinkPlan, Mac, Plan, PortState, Queues, Seq, ServicePlan,
+    Spanning,
 };
 use pb_service::{
     Limits, PlanFault, PortEvent, PortSpec, Stamp, read_limits, read_plan, read_plan_file,
@@ -45,6 +46,7 @@ fn are_services(services: &[ServicePlan]) -> bool {
 /// Returns whether the plan has the defaults of the network.
 fn has_defaults(plan: &Plan) -> bool {
     plan.spanning == Spanning::Fixed
+        && plan.queues == Queues::PerPort
         && plan.ageing == 300
         && plan.ring == 64
         && plan.steps == u64::MAX
@@ -266,6 +268,24 @@ fn have_keys(links: &[LinkPlan]) -> bool {
 fn ends_have_their_keys(rt: HostRuntime) -> Result<(), PlanFault> {
     let (plan, _) = read_plan(rt.alloc(), LINK.as_bytes())?;
     assert!(rt; plan.spanning == Spanning::Rstp && have_keys(plan.links.as_slice()));
+    Ok(())
+}
+
+/// The values of the key `queues`, with either value of `spanning`.
+const QUEUES: &[(&str, Queues)] = &[
+    ("queues = \"port\"", Queues::PerPort),
+    ("queues = \"class\"", Queues::PerClass),
+    ("spanning = \"rstp\"\nqueues = \"port\"", Queues::PerPort),
+    ("spanning = \"rstp\"\nqueues = \"class\"", Queues::PerClass),
+];
+
+#[test]
+fn a_queue_counts_what_its_key_names(rt: HostRuntime) -> Result<(), PlanFault> {
+    for (keys, queues) in QUEUES {
+        let file = format!(in rt.alloc(); "[network]\n{keys}\n")?;
+        let (plan, _) = read_plan(rt.alloc(), file.as_bytes())?;
+        assert!(rt; plan.queues == *queues, "{keys}");
+    }
     Ok(())
 }
 

@@ -1,9 +1,10 @@
 use Rattle.std.proofs.Common.{rules, ◌<◌, ◌^◌, length, arith, ap, ◌∙◌}
-use Rattle.pb_lan.specs.Queues.{waiting}
+use Rattle.pb_lan.specs.Queues.{waiting, capacity_of}
 use Rattle.pb_relay.specs.Backlogs.{at_place}
 use Rattle.pb_relay.specs.Classes.{number_in}
 use Rattle.pb_relay.specs.Standing.{BridgeView}
 use Rattle.pb_relay.proofs.Keeping.{used_there}
+use Rattle.pb_relay.proofs.GrowthLemmas.{few_wait}
 use Rattle.pb_relay.proofs.StandingLemmas.{number_at, capacity-small}
 use Rattle.pb_relay.proofs.bridge.Bridge.waiting.Goals as goal
 
@@ -24,9 +25,10 @@ overflow_cast-result c =
       arith,
       n,
       c.waiting.ensures ∙ ap (λ k. number_in (at_place c.self.inside.forwarding.backlog k)) c.index_of.ensures,
-      c.self.invariant.1.within c.args.port,
-      capacity-small c.self.inside.plan
-          c.self.inside.number c.self.invariant.0.sound,
+      few_wait c.self.inside.plan.queues (capacity_of c.self.inside.plan c.self.inside.number)
+          (waiting c.self.inside.plan c.self.inside.number c.args.port c.self.inside.steps.steps)
+          (c.self.invariant.1.classes c.args.port) (c.self.invariant.1.within c.args.port)
+          (capacity-small c.self.inside.plan c.self.inside.number c.self.invariant.0.sound),
     ) in
     search rules
 

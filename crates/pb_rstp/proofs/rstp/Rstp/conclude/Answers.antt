@@ -12,7 +12,7 @@ use Rattle.pb_rstp.proofs.MovingLaws.{settle_same, settle_rising}
 use Rattle.pb_rstp.proofs.OldRootLaws.{settle_old_roots}
 use Rattle.pb_rstp.proofs.rstp.Rstp.conclude.Goals as goal
 
--- what holds of a machine and the ports that are settled holds of the machine that callers see and the ports it gets
+-- what holds of the bridge and its ports inside the call holds of those that its caller sees
 as_called : {old now : Machine} {new settled : List Port} (R : Machine → List Port → Type 0) → old ≡ now → new ≡ settled
     → R old settled → R now new
 as_called {old} {now} {new} {settled} R view e h = subst (λ (m : Machine). R m new) view (subst (R old) (sym e) h)
