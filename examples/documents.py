@@ -5,7 +5,8 @@ usage: examples/documents.py COMMAND REPORT DOCUMENT
        examples/documents.py COMMAND REPORT --write
 
 Reads a report of check, run, step, trace, tree, survive or diff with rules of its own, and compares what it says with a document: JSON,
-or CSV where the file's name ends in .csv. Prints what differs, with exit status 1. With --write it prints the JSON instead."""
+or CSV where the file's name ends in .csv. JSON begins with the command, the version and the plan file; what comes after them is
+compared. Prints what differs, with exit status 1. With --write it prints that part of the JSON instead."""
 import csv
 import json
 import re
@@ -51,8 +52,8 @@ READ = {
     "relayed_to": numbers,
 }
 # Groups whose key differs from their name.
-KEYS = {"from_ports": "from", "port_number": "port", "fault_number": "fault"}
-READ |= {"port_number": number, "fault_number": number}
+KEYS = {"from_ports": "from", "port_number": "port"}
+READ |= {"port_number": number, "code": number, "bridge_port": number, "count": number}
 
 PLAN = rf"ok bridges (?P<bridges>\d+) links (?P<links>\d+) services (?P<services>\d+) ports (?P<ports>\d+)"
 FOREST = r"forest (?P<forest>yes|no)"
@@ -72,21 +73,29 @@ FORESTS = [("", FOREST, {}), ("loops", LOOP, {})]
 HOP = rf"(?P<indent> *)(?P<bridge>{NAME}) (?P<port_number>\d+) from (?P<from>{NAME}), (?:untagged|(?P<service>[\w -]+) vid (?P<vid>\d+) priority (?P<priority>\d+)(?:, tag (?P<tag_taken_off>[0-9a-f]+) removed)?)(?:, (?P<source>source [\w ]+|table full))?(?:, (?P<way>known|flooded|no egress port))?: "
 PART = rf"(?P<part>bridge|link|service|port) (?P<name>{NAME})"
 SERVICE = rf"service (?P<service>{NAME}): "
+CHANGE = r"better and worse|better|worse|no change"
 # What may have changed with nothing down, and under each failure.
 CHANGES = [
     ("reach", SERVICE, r"now reach each other:(?P<groups>.*)", {"reach": True}),
     ("reach", SERVICE, r"no longer reach each other:(?P<groups>.*)", {"reach": False}),
-    ("loops", SERVICE, r"now forms a forwarding loop", {"loop": True}),
-    ("loops", SERVICE, r"no longer forms a forwarding loop", {"loop": False}),
+    ("loop_changes", SERVICE, r"now forms a forwarding loop", {"loop": True}),
+    ("loop_changes", SERVICE, r"no longer forms a forwarding loop", {"loop": False}),
     ("convergence", "", r"bridges now converge", {"converges": True}),
     ("convergence", "", r"bridges no longer converge", {"converges": False}),
 ]
 # For each command the lines: in which list they stand, how they look, and what they say besides.
 LINES = {
-    "check": [("plan", PLAN, {}), *FORESTS, ("warnings", r"warning: file:(?:(?P<line>\d+):)? (?P<message>.*)", {}), *ENDS],
+    "check": [("counts", PLAN, {}), *FORESTS, ("warnings", r"warning: file:(?:(?P<line>\d+):)? (?P<message>.*)", {}), *ENDS],
     "run": [
         ("", rf"ended (?P<ended>\w+)", {}), ("ports", PORT, {}), ("links", LINK, {}), *FORESTS, ("", SETTLED, {}),
-        ("port_faults", rf"fault: port (?P<port>{NAME}) (?P<fault_number>\d+)", {}), *ENDS,
+        ("port_faults", rf"fault: port (?P<port>{NAME}) (?P<code>\d+)", {}),
+        ("losses", rf"port (?P<port>{NAME}): (?P<count>\d+) (?P<what>frames not written)", {}),
+        ("losses", rf"bridge (?P<bridge>{NAME}) port (?P<bridge_port>\d+): (?P<count>\d+) (?P<what>(?:copies|BPDUs) not queued): (?P<cause>full|memory)", {}),
+        ("losses", rf"bridge (?P<bridge>{NAME}): (?P<count>\d+) (?P<what>sources not learnt): (?P<cause>full|memory)", {}),
+        ("losses", r"(?P<what>bridges not converged)", {}),
+        ("paths", rf"error: port (?P<port>{NAME}): (?:cannot )?(?P<use>read|write|connect|listen) (?P<path>.*?): (?P<why>.*)", {}),
+        ("paths", r"error: cannot create control socket (?P<path>.*?): (?P<why>.*)", {"use": "control"}),
+        ("warnings", r"warning: (?P<message>.*)", {}), *ENDS,
     ],
     "step": [("ports", PORT, {}), ("links", LINK, {}), *FORESTS, ("", SETTLED, {}), *ENDS, ("answers", r"(?P<answer>.*)", {})],
     "tree": [
@@ -101,7 +110,7 @@ LINES = {
         *[("failures", rf"{lead}{what} down: {REST}", besides)
             for lead, besides in (("", {}), ("accepted ", {"accepted": True}))
             for what in (rf"(?P<down>link|bridge) (?P<name>{NAME})", rf"(?P<down>links) (?P<name>{NAME}) (?P<other>{NAME})")],
-        ("loops", rf"  loop (?P<service>{NAME})", {}),
+        ("loops", rf"  loop (?P<name>{NAME})", {}),
         ("services", rf"  service (?P<name>{NAME}):(?P<groups>.*)", {}),
         ("cut_off", rf"  (?P<port>{NAME}) cut off from:(?P<from_ports>.*)", {}),
         ("unhealthy", rf"service (?P<service>{NAME}) is disconnected", {"fault": "disconnected"}),
@@ -126,12 +135,14 @@ LINES = {
         *[(home, rf"{lead}nothing down: {words}", {"down": "nothing", **besides}) for home, lead, words, besides in CHANGES],
         *[(home, rf"{lead}(?P<down>link|bridge) (?P<name>{NAME}) down: {words}", besides) for home, lead, words, besides in CHANGES],
         *[(home, rf"{lead}(?P<down>links) (?P<name>{NAME}) (?P<other>{NAME}) down: {words}", besides) for home, lead, words, besides in CHANGES],
+        ("failures", rf"(?P<down>link|bridge) (?P<name>{NAME}) down: (?P<change>{CHANGE})", {}),
+        ("failures", rf"(?P<down>links) (?P<name>{NAME}) (?P<other>{NAME}) down: (?P<change>{CHANGE})", {}),
         ("ends", rf"link (?P<link>{NAME}) with nothing down: a (?P<old_a>[\w ]+), b (?P<old_b>[\w ]+) -> a (?P<new_a>[\w ]+), b (?P<new_b>[\w ]+)", {}),
         ("parts", rf"{PART}: (?P<change>added|removed)", {}),
         ("fields", rf"{PART}: (?P<key>\w+): (?P<old>.*) -> (?P<new>.*)", {}),
         ("network", r"network: (?P<key>\w+): (?P<old>.*) -> (?P<new>.*)", {}),
         ("", r"most ticks to convergence: (?:none|(?P<old_most_ticks>\d+)) -> (?:none|(?P<new_most_ticks>\d+))", {}),
-        ("", r"better: (?P<better>\d+) of (?P<failures_tried>\d+) failures; worse: (?P<worse>\d+) of \d+ failures; with nothing down: (?P<nothing_down>.*)", {}),
+        ("", r"better: (?P<better>\d+) of (?P<failures_tried>\d+) failures; worse: (?P<worse>\d+) of \d+ failures; with nothing down: (?P<nothing_down_change>.*)", {}),
         ("", r"no difference", {"differs": False}),
         ("no_such", rf"no such service (?P<service>.*)", {}), *ENDS,
     ],
@@ -150,15 +161,18 @@ LINES = {
 }
 # The lists of each document, and how their lines stand there.
 LISTS = {
-    "check": {"plan": "one", "loops": "values", "warnings": "objects", "plan_fault": "one"},
-    "run": {"ports": "objects", "links": "objects", "loops": "values", "port_faults": "objects", "plan_fault": "one"},
+    "check": {"counts": "one", "loops": "values", "warnings": "objects", "plan_fault": "one"},
+    "run": {"ports": "objects", "links": "objects", "loops": "values", "port_faults": "objects", "losses": "objects", "paths": "objects",
+            "warnings": "objects", "plan_fault": "one"},
     "step": {"answers": "values", "ports": "objects", "links": "objects", "loops": "values", "plan_fault": "one"},
     "trace": {"frames": "objects", "plan_fault": "one"},
     "tree": {"bridges": "objects", "loops": "values", "branches": "objects", "plan_fault": "one"},
     "survive": {"nothing_down": "one", "failures": "objects", "acceptances": "objects", "no_such": "one", "plan_fault": "one"},
-    "diff": {"parts": "objects", "fields": "objects", "network": "objects", "reach": "objects", "loops": "objects",
-             "ends": "objects", "convergence": "objects", "no_such": "one", "plan_fault": "one"},
+    "diff": {"parts": "objects", "fields": "objects", "network": "objects", "reach": "objects", "loop_changes": "objects",
+             "ends": "objects", "convergence": "objects", "failures": "objects", "no_such": "one", "plan_fault": "one"},
 }
+# The lists inside objects that have the value of each line alone.
+PLAIN = {"survive": ["loops"]}
 INNER = {
     "trace": {"frames": ["hops"]},
     "tree": {"bridges": ["ports"]},
@@ -208,7 +222,7 @@ def document_of(command, text):
         elif kind == "values" or home == "other":
             document.setdefault(home, []).append(next(iter(row.values())))
         elif kind is None:
-            owner[home].append(row)
+            owner[home].append(next(iter(row.values())) if home in PLAIN.get(command, []) else row)
         else:
             owner = {key: row.setdefault(key, []) for key in inner.get(home, [])}
             if kind == "one":
@@ -249,6 +263,11 @@ def main():
             given, wanted = list(csv.reader(file)), table_of(command, text)
         else:
             given, wanted = json.load(file), document_of(command, text)
+            head = [given.pop(key, None) for key in ("command", "version", "plan")]
+            if head[0] != command or not all(head):
+                print(f"documents: {document} begins with {head}", file=sys.stderr)
+                return 1
+            given.pop("old_plan", None)
     if given == wanted:
         return 0
     print(f"documents: {document} does not say what {report} says:\n{given}\n{wanted}", file=sys.stderr)

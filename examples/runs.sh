@@ -45,7 +45,7 @@ prints plan-file.expected check examples/plan-file.toml
 prints init.toml init
 
 # `run` accepts what `init` prints, and the broadcast of its first port leaves all others. A ring has a clock.
-for words in "" "--ring 3" "--star 4"; do
+for words in "" "--ring 3" "--star 4" "--dual-homed 3"; do
     begin "init${words:+ $words}"
     # shellcheck disable=SC2086
     runs out/begun.toml init $words
@@ -60,6 +60,20 @@ for words in "" "--ring 3" "--star 4"; do
         wrong "the broadcast leaves $left of $all ports"
     fi
 done
+
+# Dual-homed bridges survive each failure, with all their services.
+begin "init --dual-homed 6 --services 4"
+runs out/begun.toml init --dual-homed 6 --services 4
+ended 0
+runs out/begun.check check --strict out/begun.toml
+ended 0
+runs out/begun.report survive --bridges out/begun.toml
+ended 0
+
+begin "help plan"
+runs out/help.plan help plan
+ended 0
+scripts/keys out/help.plan 2>>out/errors || wrong "the help lacks a key"
 
 broadcast=ffffffffffff02000000010108004142
 other=ffffffffffff02000000020208004344
@@ -81,6 +95,34 @@ prints trace.expected trace examples/two-bridges.toml C1 "$broadcast" --then C2 
 prints trace-metro.expected trace examples/metro.toml provider "$metro"
 prints trace-down.expected trace examples/failover.toml C1 "$broadcast" --down L1 --settle
 prints trace-losses.expected trace examples/losses.toml sender "$broadcast" --then sender "$broadcast"
+prints trace-options.expected trace examples/two-bridges.toml C1 --to C2 --ctag 5:3 --pcp 2
+prints settled.expected check --settle examples/failover.toml
+
+# A script that is a test: its answers, and a finding for a difference.
+prints tagged.expected step --test examples/two-bridges.toml <examples/tagged.test
+begin "step --test with a difference"
+sed 's/^expect polled/expect fed/' examples/tagged.test >out/wrong.test
+runs out/wrong step --test examples/two-bridges.toml <out/wrong.test
+ended 4
+same out/wrong examples/tagged.expected
+says out/errors "line 3: wanted fed C1 0, got polled C1 0"
+
+# An option that describes a frame is refused with its range, and the trace is of no frame.
+undescribed() {
+    local want=$1
+    shift
+    begin "trace $*"
+    runs out/undescribed trace examples/two-bridges.toml C1 "$@"
+    ended 2
+    same out/undescribed /dev/null
+    says out/errors "error: $want"
+}
+undescribed "--ctag: VID 5000 is not in 0..4094" --ctag 5000
+undescribed "--ctag: PCP 8 is not in 0..7" --ctag 5:8
+undescribed '--to: "C9" is not an address, a customer port or broadcast' --to C9
+undescribed '--from: "C2" is not an address like 02-00-00-00-01-01' --from C2
+undescribed "--ethertype: 05ff is not in 0600..ffff" --ethertype 05ff
+undescribed "--length: 14 is below the 18 octets of the frame" --ctag 5 --length 14
 
 # A link that fails fails at both ends, and a bridge with its links.
 both() {
@@ -138,15 +180,20 @@ prints_last() {
 prints_last 2 broken/ring-trace.expected trace examples/broken/ring.toml C1 "$broadcast"
 prints_last 1 broken/queue-trace.expected trace examples/broken/queue.toml C1 "$broadcast" --then C2 "$other"
 
-# Compares a document with the report of examples/ that says the same, and with the document of examples/, if any.
+# The documents that were compared, for their schemas.
+written=()
+
+# Compares a document with the report of examples/ or out/ that says the same, and with that of examples/, if any.
 documents() {
-    local report=$1 document=$2 command=$3
+    local report=examples/$1 document=$2 command=$3
+    [ -f "$report" ] || report=out/$1
     shift 3
     begin "$document"
     runs "out/$document" "$command" --format "${document##*.}" "$@"
     ended "${status-0}"
-    [ ! -f "examples/$document" ] || same "out/$document" "examples/$document"
-    agrees "$command" "examples/$report" "out/$document"
+    [ ! -f "examples/$document" ] || same_document "out/$document" "examples/$document"
+    agrees "$command" "$report" "out/$document"
+    case $document in *.json) written+=("out/$document") ;; esac
 }
 
 # Compares the report, the warnings and the document of `check --strict` for a plan with warnings with those of examples/.
@@ -160,23 +207,56 @@ warns() {
     runs "out/$it.json" check --strict --format json "examples/$it.toml"
     ended 4
     same out/errors "examples/$it.errors"
-    same "out/$it.json" "examples/$it.json"
+    same_document "out/$it.json" "examples/$it.json"
     sed 's/^warning: [^:]*:/warning: file:/' "examples/$it.errors" | cat "examples/$it.expected" - >"out/$it.report"
     agrees check "out/$it.report" "out/$it.json"
+    written+=("out/$it.json")
+}
+
+# Prints a report with harmless failures to out/. Such a report is one of examples/ with lines added.
+with_all() {
+    local short=$1 all=$2
+    shift 2
+    begin "$all"
+    runs "out/$all" "$@" --all-failures
+    ended "${status-0}"
+    diff "examples/$short" "out/$all" | grep -q '^<' && wrong "out/$all lacks lines of examples/$short"
+    [ ! -f "examples/$all" ] || same "out/$all" "examples/$all"
 }
 documents plan-file.expected plan-file.json check examples/plan-file.toml
 warns broken/warnings
+
+# Compares the errors and the document of `check` for a plan that is refused with those of examples/.
+refuses() {
+    local it=$1
+    shift
+    begin "$it.errors"
+    runs "out/$it.expected" check "$@" "examples/$it.toml"
+    ended 1
+    same "out/$it.expected" "examples/$it.expected"
+    same out/errors "examples/$it.errors"
+    runs "out/$it.json" check "$@" --format json "examples/$it.toml"
+    ended 1
+    [ ! -f "examples/$it.json" ] || same "out/$it.json" "examples/$it.json"
+}
+refuses broken/errors --all
+refuses broken/misspelt
 begin "a plan without warnings"
 runs out/strict check --strict examples/metro.toml
 ended 0
 [ ! -s out/errors ] || wrong "there are warnings"
 documents broken/ring-check.expected broken/ring-check.json check examples/broken/ring.toml
-status=4 documents access.expected access.json survive examples/access.toml
+status=4 with_all access.expected access-all.expected survive examples/access.toml
+status=4 documents access-all.expected access.json survive examples/access.toml
 status=4 documents access.expected access.csv survive examples/access.toml
-status=4 documents broken/trunk-survive.expected broken/trunk-survive.json \
+status=4 with_all broken/trunk-survive.expected broken/trunk-all.expected \
     survive examples/broken/trunk.toml --service blue
-documents diff.expected diff.json diff examples/access.toml examples/access-video.toml
-status=4 documents diff-worse.expected diff-worse.json diff examples/access-video.toml examples/access.toml
+status=4 documents broken/trunk-all.expected broken/trunk-survive.json \
+    survive examples/broken/trunk.toml --service blue
+with_all diff.expected diff-all.expected diff examples/access.toml examples/access-video.toml
+documents diff-all.expected diff.json diff examples/access.toml examples/access-video.toml
+status=4 with_all diff-worse.expected diff-worse-all.expected diff examples/access-video.toml examples/access.toml
+status=4 documents diff-worse-all.expected diff-worse.json diff examples/access-video.toml examples/access.toml
 documents tree.expected tree.json tree examples/failover.toml
 documents broken/open-tree.expected broken/open-tree.json tree examples/broken/open.toml
 documents trace.expected trace.json trace examples/two-bridges.toml C1 "$broadcast" --then C2 "$unicast"
@@ -202,11 +282,17 @@ begin "a document of a plan file that is missing"
 runs out/none.json check --format json examples/none.toml
 ended 3
 has_line out/none.json '  "fault": "path",'
+begin "a document of a service that the plan lacks"
+runs out/lacks.json survive --format json --service green examples/access.toml
+ended 2
+has_line out/lacks.json '    "service": "green"'
+written+=(out/none.json out/lacks.json)
 begin "a document of a plan that is refused"
 echo 'x = 1' >out/wrong.toml
 runs out/wrong.json run --format json out/wrong.toml
 ended 1
 has_line out/wrong.json '    "fault": "unknown",'
+written+=(out/wrong.json)
 
 begin "the picture of the pages"
 runs out/metro.svg draw examples/metro.toml
@@ -286,6 +372,12 @@ begin "a capture is kept that two ports write"
 plan "$(capture "$none" "$keep")" "$(capture examples/captures/camera.pcap "out/../$keep")" >out/refused.toml
 refuses "error: port C2: write out/../$keep: also written by port C1"
 same "$keep" examples/captures/provider.pcap
+begin "a document of a path that could not be used"
+runs out/refused.json run --format json out/refused.toml
+ended 3
+cat out/refused.report out/errors >out/refused.all
+agrees run out/refused.all out/refused.json
+written+=(out/refused.json)
 begin "a capture is not made if another can't be"
 plan "$(capture "$none" out/made.pcap)" "$(capture "$none" out/none/c2.pcap)" >out/refused.toml
 refuses "error: port C2: write out/none/c2.pcap: No such file or directory (os error 2)"
@@ -366,11 +458,18 @@ is_wrong() {
     done
 }
 printf '[network]\nageing = 300\n\n[[bridge]]\nname = "B1"\n' >out/wrong.toml
-is_wrong "plan: 3 missing bridge[0].address" "error: out/wrong.toml: invalid plan at line 4"
-printf '[network]\nageing = 300 300\n' >out/wrong.toml
-is_wrong "plan: 2 toml" "error: out/wrong.toml: invalid plan at line 2, column 10"
+is_wrong "plan: 3 missing bridge[0].address" "out/wrong.toml:4:1: bridge \"B1\": address is missing
+    [[bridge]]
+    ^^^^^^^^^^"
+printf '[network]\nageing = 300\nageing = 300\n' >out/wrong.toml
+is_wrong "plan: 2 toml" "out/wrong.toml:3:1: duplicate key
+    ageing = 300
+    ^^^^^^^^^^^^"
 printf '[[service]]\nname = "S"\nvid = %s\n' 1 2 >out/wrong.toml
-is_wrong "plan: 7 twice S" ""
+is_wrong "plan: 7 twice S" "out/wrong.toml:5:8: service \"S\": another service has the name S
+    name = \"S\"
+           ^^^
+hint: service \"S\" has it at line 2"
 
 begin "a peer that does not hang up is stopped by --seconds"
 rm -f out/still.sock
@@ -434,7 +533,7 @@ missing out/west.sock
 slow() {
     rm -f out/slow.sock
     peer out/slow python3 examples/slow.py out/slow.sock 2
-    runs out/slow.report run --strict --linger "$1" out/slow.toml
+    runs out/slow.json run --strict --linger "$1" --format json out/slow.toml
     wait
 }
 frames=$(python3 -c 'print(", ".join(["\"ffffffffffff0200000001010800" + "00" * 1886 + "\""] * 200))')
@@ -451,6 +550,8 @@ begin "a slow peer, with --linger 0"
 slow 0
 ended 4
 has_line out/errors 'port C1: [0-9]* frames not written'
+has_line out/slow.json '      "what": "frames not written",'
+written+=(out/slow.json)
 
 # A link of the ring fails by an event, and another by the control socket. Frames take the other way.
 begin "run ring-under-load.toml"
@@ -466,5 +567,15 @@ says out/ring.report "ended stopped
 forest yes
 settled yes"
 missing out/ring.control
+
+begin "documents and plans by their schemas"
+told=0
+python3 examples/schemas.py "${written[@]}" examples/*.toml examples/broken/*.toml 2>out/errors || told=$?
+if [ "$told" = 2 ]; then
+    cat out/errors >&2
+    name=
+else
+    ended 0
+fi
 
 finish

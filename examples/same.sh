@@ -1,7 +1,8 @@
 #!/usr/bin/env bash
 # Compares each file of examples/ with its copy in a test of the gate or beside the program, and then, by
-# scripts/pages, the blocks of the pages of docs/ with the files, and by scripts/examples the examples of docstrings with
-# their tests. Prints `N copies agree, the pages and the docstrings`, or what differs on standard error with exit status 1.
+# scripts/pages, the blocks of the pages of docs/ with the files, by scripts/examples the examples of docstrings with
+# their tests, and by scripts/keys the keys of plan files in all places that list them. Prints `N copies agree, the pages
+# and the docstrings`, or what differs on standard error with exit status 1.
 set -eu
 cd -- "$(dirname -- "$0")"
 
@@ -80,5 +81,6 @@ done
 
 ../scripts/pages || status=1
 ../scripts/examples || status=1
+../scripts/keys || status=1
 [ "$status" != 0 ] || echo "$count copies agree, the pages and the docstrings"
 exit "$status"

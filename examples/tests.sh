@@ -60,6 +60,12 @@ same() {
     cmp -s -- "$1" "$2" || wrong "$1 is not $2"
 }
 
+# Two documents are the same but for the version.
+same_document() {
+    local version='s/^  "version": .*/  "version"/'
+    sed "$version" "$1" | cmp -s -- - <(sed "$version" "$2") || wrong "$1 is not $2"
+}
+
 # A file has this text, its last line feeds left out.
 says() {
     [ "$(cat -- "$1")" = "$2" ] || wrong "$1 is not '$2' but '$(cat -- "$1")'"

@@ -1,8 +1,9 @@
 -- The command lines that the program accepts.
 use Rattle.std.specs.Prelude.{◌≡◌, ◌⊎◌, ℕ, ◌≤◌, List, Some, None, IfSome, codes, string_bytes}
 use Rattle.std.specs.declared.option.Option.{Option}
+use Rattle.pb_cli.specs.declared.init_options.InitNetwork.{InitNetwork}
+use Rattle.pb_cli.specs.declared.init_options.InitNetwork.TheVariants.{Line, Ring, Star, DualHomed}
 use Rattle.pb_cli.specs.declared.init_options.InitOptions.{InitOptions}
-use Rattle.pb_cli.specs.declared.init_options.InitOptions.TheVariants.{Line, Ring, Star}
 use Rattle.pb_cli.specs.declared.command_line.CommandLine.{CommandLine}
 use Rattle.pb_cli.specs.declared.command_line.CommandLine.TheVariants.{Flat, Check, Step, Run, Tree, Trace, Show, Init, Survive, Diff, Draw, Control}
 
@@ -19,30 +20,39 @@ IsLinger linger = linger ≤ 60000
 abbrev pub AreTicks : ℕ → Type 0
 AreTicks ticks = (1 ≤ ticks) × (ticks ≤ 1000000)
 
--- a line has 1 to 32 bridges, a ring 3 to 32, and a star 2 to 17
-abbrev pub IsNetwork : InitOptions → Type 0
+-- a line has 1 to 32 bridges, a ring 3 to 32, and a star 2 to 17; there are 2 to 24 dual-homed bridges
+abbrev pub IsNetwork : InitNetwork → Type 0
 IsNetwork (Line bridges) = (1 ≤ bridges) × (bridges ≤ 32)
 IsNetwork (Ring bridges) = (3 ≤ bridges) × (bridges ≤ 32)
 IsNetwork (Star bridges) = (2 ≤ bridges) × (bridges ≤ 17)
+IsNetwork (DualHomed access) = (2 ≤ access) × (access ≤ 24)
 
 -- the network of the argument that is present; without one, a line of two
-abbrev pub IsAsked : Option ℕ → Option ℕ → Option ℕ → InitOptions → Type 0
-IsAsked line ring star options =
-    ((line ≡ None) × (ring ≡ None) × (star ≡ None) × (options ≡ Line 2))
-    ⊎ ((bridges : ℕ) × (line ≡ Some bridges) × (ring ≡ None) × (star ≡ None) × (options ≡ Line bridges))
-    ⊎ ((bridges : ℕ) × (line ≡ None) × (ring ≡ Some bridges) × (star ≡ None) × (options ≡ Ring bridges))
-    ⊎ ((bridges : ℕ) × (line ≡ None) × (ring ≡ None) × (star ≡ Some bridges) × (options ≡ Star bridges))
+abbrev pub IsAsked : Option ℕ → Option ℕ → Option ℕ → Option ℕ → InitNetwork → Type 0
+IsAsked line ring star dual network =
+    ((line ≡ None) × (ring ≡ None) × (star ≡ None) × (dual ≡ None) × (network ≡ Line 2))
+    ⊎ ((n : ℕ) × (line ≡ Some n) × (ring ≡ None) × (star ≡ None) × (dual ≡ None) × (network ≡ Line n))
+    ⊎ ((n : ℕ) × (line ≡ None) × (ring ≡ Some n) × (star ≡ None) × (dual ≡ None) × (network ≡ Ring n))
+    ⊎ ((n : ℕ) × (line ≡ None) × (ring ≡ None) × (star ≡ Some n) × (dual ≡ None) × (network ≡ Star n))
+    ⊎ ((n : ℕ) × (line ≡ None) × (ring ≡ None) × (star ≡ None) × (dual ≡ Some n) × (network ≡ DualHomed n))
+
+-- a starter plan has 1 to 4 services
+abbrev pub AreServices : ℕ → Type 0
+AreServices services = (1 ≤ services) × (services ≤ 4)
+
+abbrev pub AreInitOptions : InitOptions → Type 0
+AreInitOptions options = IsNetwork options.network × AreServices options.services
 
 -- the numbers of a command line are in their ranges
 abbrev pub HasValidArguments : CommandLine → Type 0
 HasValidArguments (Flat ports) = (2 ≤ ports) × (ports ≤ 16)
-HasValidArguments (Check options) = Unit {0}
+HasValidArguments (Check options) = IfSome options.settle AreTicks
 HasValidArguments (Step report) = Unit {0}
 HasValidArguments (Run run) = AreSeconds run.seconds × IsLinger run.linger
 HasValidArguments (Tree tree) = AreTicks tree.ticks
 HasValidArguments (Trace trace) = IfSome trace.settle AreTicks
 HasValidArguments Show = Unit {0}
-HasValidArguments (Init options) = IsNetwork options
+HasValidArguments (Init options) = AreInitOptions options
 HasValidArguments (Survive options) = AreTicks options.ticks
 HasValidArguments (Diff options) = AreTicks options.ticks
 HasValidArguments (Draw options) = AreTicks options.ticks
@@ -50,7 +60,8 @@ HasValidArguments (Control control) = Unit {0}
 
 -- the command line of a command over the plan file at a path, with numbers in their ranges
 abbrev pub IsPlanCommandLine : List ℕ → List ℕ → CommandLine → Type 0
-IsPlanCommandLine command path (Check options) = (command ≡ codes "check") × (string_bytes options.path ≡ path)
+IsPlanCommandLine command path (Check options) =
+    (command ≡ codes "check") × (string_bytes options.path ≡ path) × IfSome options.settle AreTicks
 IsPlanCommandLine command path (Step report) = (command ≡ codes "step") × (string_bytes report.path ≡ path)
 IsPlanCommandLine command path (Run run) =
     (command ≡ codes "run") × (string_bytes run.path ≡ path) × AreSeconds run.seconds × IsLinger run.linger

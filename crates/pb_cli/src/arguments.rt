@@ -1,6 +1,6 @@
 //! Arguments of several commands.
 
-ghost use Rattle.std.specs.Prelude.{◌≡◌, ◌↔◌, codes};
+ghost use Rattle.std.specs.Prelude.{◌≡◌, ◌↔◌, IfSome, codes};
 ghost use Rattle.pb_cli.specs.CommandLines.{AreTicks};
 
 use crate::table::{Argument, Takes};
@@ -73,6 +73,15 @@ pub(crate) const SETTLE_LIMIT: Argument = Argument {
     excludes: &[],
 };
 
+/// The argument for a report of all failures.
+pub(crate) const ALL_FAILURES: Argument = Argument {
+    name: "all-failures",
+    value: "",
+    help: "Report also the failures that change nothing; JSON always does",
+    takes: Takes::Nothing,
+    excludes: &[],
+};
+
 /// The argument for the form of a report: text or JSON.
 pub(crate) const AS_DOCUMENT: Argument = Argument {
     name: "format",
@@ -136,6 +145,17 @@ pub(crate) fn ticks_of(given: &ArgMatches<'_>) -> u32
     match given.get_one::<u32>("ticks") {
         Some(ticks) if 1 <= ticks && ticks <= MOST_TICKS => ticks,
         _ => TICKS,
+    }
+}
+
+/// Returns the most ticks of each bridge until convergence, if the bridges converge first.
+pub(crate) fn settle_of(given: &ArgMatches<'_>) -> Option<u32>
+    ensures { IfSome result AreTicks }
+{
+    if given.get_flag("settle") {
+        Some(ticks_of(given))
+    } else {
+        None
     }
 }
 

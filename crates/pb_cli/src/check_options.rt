@@ -1,8 +1,11 @@
 //! The options of `check`.
 
-ghost use Rattle.std.specs.Prelude.{◌≡◌, IfOk, string_bytes};
+ghost use Rattle.std.specs.Prelude.{◌≡◌, IfOk, IfSome, string_bytes};
+ghost use Rattle.pb_cli.specs.CommandLines.{AreTicks};
 
-use crate::arguments::{AS_DOCUMENT, PLAN_FILE, ReportFormat, report_format_of};
+use crate::arguments::{
+    AS_DOCUMENT, PLAN_FILE, ReportFormat, SETTLE_LIMIT, report_format_of, settle_of,
+};
 use crate::table::{Argument, Takes};
 use clap::ArgMatches;
 use std::alloc::{AllocError, Global};
@@ -13,12 +16,33 @@ pub(crate) const CHECK: &str = "Validate a plan and report forwarding loops";
 /// The help of `--strict`.
 const STRICT: &str = "Exit with status 4 if there is a warning";
 
+/// The help of `--settle`.
+const SETTLE: &str = "Also report the forest after convergence, after at most N ticks of --ticks";
+
+/// The help of `--all`.
+const ALL: &str = "Report all errors of the plan, at most 50";
+
 /// The arguments of `check`.
 pub(crate) const ARGUMENTS: &[Argument] = &[
     Argument {
         name: "strict",
         value: "",
         help: STRICT,
+        takes: Takes::Nothing,
+        excludes: &[],
+    },
+    Argument {
+        name: "settle",
+        value: "",
+        help: SETTLE,
+        takes: Takes::Nothing,
+        excludes: &["format"],
+    },
+    SETTLE_LIMIT,
+    Argument {
+        name: "all",
+        value: "",
+        help: ALL,
         takes: Takes::Nothing,
         excludes: &[],
     },
@@ -33,6 +57,10 @@ pub struct CheckOptions {
     pub path: String,
     /// Whether a plan with warnings has an exit status of its own.
     pub strict: bool,
+    /// The most ticks of each bridge until convergence, 1 to 1,000,000. None: the bridges do not converge.
+    pub settle: Option<u32>,
+    /// Whether all errors of a plan are reported.
+    pub all: bool,
     /// The form in which the report is printed.
     pub format: ReportFormat,
 }
@@ -47,11 +75,14 @@ pub(crate) fn check_options(
     path: &str,
     given: &ArgMatches<'_>,
 ) -> Result<CheckOptions, AllocError>
-    ensures { IfOk result (λ options. string_bytes options.path ≡ path.now) }
+    ensures path { IfOk result (λ options. string_bytes options.path ≡ path.now) }
+    ensures ticks { IfOk result (λ options. IfSome options.settle AreTicks) }
 {
     Ok(CheckOptions {
         path: String::from_str(alloc, path)?,
         strict: given.get_flag("strict"),
+        settle: settle_of(given),
+        all: given.get_flag("all"),
         format: report_format_of(given),
     })
 }

@@ -3,13 +3,13 @@
 ghost use Rattle.std.specs.Prelude.{IfOk, IfSome};
 ghost use Rattle.pb_cli.specs.CommandLines.{HasValidArguments, IsPlanCommandLine};
 
-use crate::arguments::{AS_TABLE, PLAN_FILE};
 use crate::check_options::{self, CHECK, CheckOptions, check_options};
 use crate::control_options::{self, CONTROL, ControlOptions, control_options};
 use crate::diff_options::{self, DIFF, DiffOptions, diff_options};
 use crate::draw_options::{self, DRAW, DrawOptions, draw_options};
 use crate::init_options::{self, INIT, InitOptions, init_options};
-use crate::report_options::{ReportOptions, report_options};
+use crate::plan_help::plan_help;
+use crate::report_options::{self, ReportOptions, STEP, report_options};
 use crate::run_options::{self, RUN, RunOptions, run_options};
 use crate::survive_options::{self, SURVIVE, SurviveOptions, survive_options};
 use crate::table::{Argument, CommandRow, Takes, with_commands};
@@ -19,13 +19,10 @@ use clap::{ArgMatches, Command, Error};
 use std::alloc::{AllocError, Global};
 
 /// The version of the program.
-const VERSION: &str = "0.6.0";
+pub const VERSION: &str = "0.7.0";
 
 /// The help of `flat`.
 const FLAT: &str = "Run one bridge on `in PORT HEX` lines from standard input";
-
-/// The help of `step`.
-const STEP: &str = "Drive a network event by event from a script on standard input";
 
 /// The help of `show`.
 const SHOW: &str = "Print how reserved group addresses are handled";
@@ -83,7 +80,7 @@ const COMMANDS: &[CommandRow] = &[
     CommandRow {
         name: "step",
         about: STEP,
-        arguments: &[AS_TABLE, PLAN_FILE],
+        arguments: report_options::ARGUMENTS,
     },
     CommandRow {
         name: "run",
@@ -141,8 +138,10 @@ fn commands<'a>(alloc: Global) -> Result<Command<'a>, Error> {
     let program = Command::new(alloc, "pbnet")
         .version(VERSION)
         .about("A provider bridged Ethernet network in one process")
+        .after_help("`pbnet help plan` prints the keys of a plan file.")
         .subcommand_required(true);
-    with_commands(alloc, program, COMMANDS)
+    let program = with_commands(alloc, program, COMMANDS)?;
+    Ok(program.subcommand(plan_help(alloc))?)
 }
 
 /// Returns the command line of a command that reads the plan file at a path. None if the command reads no plan file, or

@@ -4,7 +4,7 @@ ghost use Rattle.std.specs.Prelude.{◌≡◌, IfOk, string_bytes};
 ghost use Rattle.pb_cli.specs.CommandLines.{AreTicks};
 
 use crate::arguments::{
-    AS_DOCUMENT, ReportFormat, TICK_LIMIT, report_format_of, text_of, ticks_of,
+    ALL_FAILURES, AS_DOCUMENT, ReportFormat, TICK_LIMIT, report_format_of, text_of, ticks_of,
 };
 use crate::table::{Argument, Takes};
 use clap::ArgMatches;
@@ -36,6 +36,7 @@ pub(crate) const ARGUMENTS: &[Argument] = &[
         takes: Takes::Text,
         excludes: &[],
     },
+    ALL_FAILURES,
     AS_DOCUMENT,
     TICK_LIMIT,
     Argument {
@@ -67,6 +68,8 @@ pub struct DiffOptions {
     pub bridges: bool,
     /// The name of the only service that is compared, or `None` for all.
     pub service: Option<String>,
+    /// Whether failures that change nothing are reported too.
+    pub all_failures: bool,
     /// The most ticks of each bridge until convergence, 1 to 1,000,000.
     pub ticks: u32,
     /// The form in which the report is printed, text or JSON.
@@ -96,6 +99,7 @@ pub(crate) fn diff_options(
         pairs: given.get_flag("pairs"),
         bridges: given.get_flag("bridges"),
         service,
+        all_failures: given.get_flag("all-failures"),
         ticks: ticks_of(given),
         format: report_format_of(given),
     })

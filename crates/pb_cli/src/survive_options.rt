@@ -4,7 +4,8 @@ ghost use Rattle.std.specs.Prelude.{◌≡◌, IfOk, string_bytes};
 ghost use Rattle.pb_cli.specs.CommandLines.{AreTicks};
 
 use crate::arguments::{
-    AS_TABLE, PLAN_FILE, ReportFormat, TICK_LIMIT, report_format_of, text_of, ticks_of,
+    ALL_FAILURES, AS_TABLE, PLAN_FILE, ReportFormat, TICK_LIMIT, report_format_of, text_of,
+    ticks_of,
 };
 use crate::table::{Argument, Takes};
 use clap::ArgMatches;
@@ -93,8 +94,9 @@ pub(crate) const ARGUMENTS: &[Argument] = &[
         value: "",
         help: PRINT_ACCEPT,
         takes: Takes::Nothing,
-        excludes: &["format"],
+        excludes: &["format", "all-failures"],
     },
+    ALL_FAILURES,
     AS_TABLE,
     TICK_LIMIT,
     PLAN_FILE,
@@ -130,6 +132,8 @@ pub struct SurviveOptions {
     pub strict: bool,
     /// Whether the tables that accept what was found are printed in place of the report.
     pub prints_accept: bool,
+    /// Whether failures that change nothing are reported too.
+    pub all_failures: bool,
     /// The most ticks of each bridge until convergence, 1 to 1,000,000.
     pub ticks: u32,
     /// The form in which the report is printed.
@@ -174,6 +178,7 @@ pub(crate) fn survive_options(
         accept: text_of(alloc, given, "accept")?,
         strict: given.get_flag("strict"),
         prints_accept: given.get_flag("print-accept"),
+        all_failures: given.get_flag("all-failures"),
         ticks: ticks_of(given),
         format: report_format_of(given),
     })

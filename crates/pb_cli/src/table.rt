@@ -27,6 +27,8 @@ pub(crate) enum Takes {
     Small(i64, i64),
     /// A text. The argument is positional and required.
     Place,
+    /// A text. The argument is positional.
+    MayPlace,
     /// A number from the first to the second, below 256. The argument is positional and required.
     SmallPlace(i64, i64),
     /// All arguments from its place on, one or more, also those that begin with a hyphen.
@@ -104,6 +106,7 @@ fn taking<'a>(arg: Arg<'a>, argument: Argument) -> Arg<'a> {
             named(arg, argument).value_parser(clap::value_parser!(u8).range(least..=most))
         }
         Takes::Place => placed(arg),
+        Takes::MayPlace => arg.action(ArgAction::Set),
         Takes::SmallPlace(least, most) => {
             placed(arg).value_parser(clap::value_parser!(u8).range(least..=most))
         }

@@ -4,8 +4,10 @@ ghost use Rattle.std.specs.Prelude.{◌≡◌, IfOk, IfSome, string_bytes};
 ghost use Rattle.pb_cli.specs.CommandLines.{AreTicks};
 
 use crate::arguments::{
-    AS_DOCUMENT, DOWNS, PLAN_FILE, ReportFormat, SETTLE_LIMIT, downs_of, report_format_of, ticks_of,
+    AS_DOCUMENT, DOWNS, PLAN_FILE, ReportFormat, SETTLE_LIMIT, downs_of, report_format_of,
+    settle_of,
 };
+use crate::frame_arguments::{self, TraceFrame, trace_frame};
 use crate::table::{Argument, Takes};
 use clap::ArgMatches;
 use std::alloc::{AllocError, Global};
@@ -17,7 +19,9 @@ pub(crate) const TRACE: &str = "Trace a frame hop by hop";
 const PORT: &str = "Customer port at which the frame enters";
 
 /// The help of HEX.
-const HEX: &str = "Frame from the destination address on, as pairs of hexadecimal digits";
+const HEX: &str =
+    "Frame from the destination address on, as pairs of hexadecimal digits; without it \
+    options describe the frame";
 
 /// The help of `--then`.
 const THEN: &str = "Inject another frame once the one before is traced; may be repeated";
@@ -39,9 +43,16 @@ pub(crate) const ARGUMENTS: &[Argument] = &[
         name: "HEX",
         value: "",
         help: HEX,
-        takes: Takes::Place,
+        takes: Takes::MayPlace,
         excludes: &[],
     },
+    frame_arguments::TO,
+    frame_arguments::FROM,
+    frame_arguments::CTAG,
+    frame_arguments::PCP,
+    frame_arguments::BPDU,
+    frame_arguments::ETHERTYPE,
+    frame_arguments::LENGTH,
     Argument {
         name: "then",
         value: "",
@@ -66,7 +77,7 @@ pub(crate) const ARGUMENTS: &[Argument] = &[
 pub struct TraceEntry {
     /// The name of the customer port at which it enters.
     pub port: String,
-    /// Its octets as pairs of hexadecimal digits.
+    /// Its octets as pairs of hexadecimal digits. Empty for the first frame if options describe it.
     pub hex: String,
 }
 
@@ -77,6 +88,8 @@ pub struct TraceOptions {
     pub path: String,
     /// The frames, in order.
     pub entries: Vec<TraceEntry>,
+    /// The first frame if options describe it.
+    pub frame: Option<TraceFrame>,
     /// What is disabled first: names of links and bridges, and ports as BRIDGE:PORT.
     pub downs: Vec<String>,
     /// The most ticks of each bridge until convergence, 1 to 1,000,000. None: the bridges do not converge first.
@@ -144,17 +157,6 @@ fn entries_of(
     Ok(entries)
 }
 
-/// Returns the most ticks of each bridge until convergence, if the bridges converge first.
-fn settle_of(given: &ArgMatches<'_>) -> Option<u32>
-    ensures { IfSome result AreTicks }
-{
-    if given.get_flag("settle") {
-        Some(ticks_of(given))
-    } else {
-        None
-    }
-}
-
 /// Returns the options of `trace` for the plan file at a path. None is never returned, because a required argument has
 /// a value; no contract says so.
 ///
@@ -169,14 +171,19 @@ pub(crate) fn trace_options(
     ensures path { IfOk result (λ o. IfSome o (λ trace. string_bytes trace.path ≡ path.now)) }
     ensures ticks { IfOk result (λ o. IfSome o (λ trace. IfSome trace.settle AreTicks)) }
 {
-    let (Some(port), Some(hex)) = (given.get_str("PORT"), given.get_str("HEX")) else {
+    let Some(port) = given.get_str("PORT") else {
         return Ok(None);
+    };
+    let (hex, frame) = match given.get_str("HEX") {
+        Some(hex) => (hex, None),
+        None => ("", Some(trace_frame(alloc, given)?)),
     };
     let entries = entries_of(alloc, port, hex, given)?;
     let downs = downs_of(alloc, given)?;
     Ok(Some(TraceOptions {
         path: String::from_str(alloc, path)?,
         entries,
+        frame,
         downs,
         settle: settle_of(given),
         format: report_format_of(given),

@@ -14,13 +14,13 @@ use std::alloc::Global;
 use std::io::Write;
 
 /// The exit status for a plan.
-const TAKEN: u8 = 0;
+pub(crate) const TAKEN: u8 = 0;
 
 /// The exit status for a refused file.
-const REFUSED: u8 = 1;
+pub(crate) const REFUSED: u8 = 1;
 
 /// Appends the line for a plan.
-fn put_plan(out: &mut String, plan: &Plan) -> Result<(), Memory>
+pub(crate) fn put_plan(out: &mut String, plan: &Plan) -> Result<(), Memory>
     ensures { OnOk result (string_bytes out.new ≡ string_bytes out.old ++ plan_line plan.now) }
 {
     let bridges = plan.bridges.len();

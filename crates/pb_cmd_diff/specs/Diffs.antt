@@ -21,12 +21,12 @@ abbrev pub end_of : Bool → DiffEnd
 end_of worse = if worse then Worse else Kept
 
 -- the report on two plans from what their networks do, with the ends of their links with nothing down
-pub record IsCompared (old new : Plan) (ticks events : ℕ) (base : Effect) (effects : List Effect) (end : DiffEnd) (text : List ℕ) : Type 0 where
+pub record IsCompared (old new : Plan) (ticks events : ℕ) (all : Bool) (base : Effect) (effects : List Effect) (end : DiffEnd) (text : List ℕ) : Type 0 where
   pub olds : List LinkEnds
   pub are_olds : AreEnds old ticks events olds
   pub news : List LinkEnds
   pub are_news : AreEnds new ticks events news
-  pub text_is : text ≡ diff_text old new base effects olds news
+  pub text_is : text ≡ diff_text old new all base effects olds news
   pub end_is : end ≡ end_of (worsens base effects)
 
 -- the report on two plans: their networks with nothing down, and under each failure of either
@@ -36,7 +36,7 @@ pub record IsReport (old new : Plan) (asked : Asked) (end : DiffEnd) (text : Lis
   pub is_base : IsEffect old new (old_services old new asked.compared) asked.ticks most_events calm base
   pub effects : List Effect
   pub are_effects : AreEffects old new (old_services old new asked.compared) asked.ticks most_events (all_cases old new asked.kinds) effects
-  pub compared : IsCompared old new asked.ticks most_events base effects end text
+  pub compared : IsCompared old new asked.ticks most_events asked.all base effects end text
 
 -- neither plan has the requested service
 pub record IsLacking (old new : Plan) (asked : Asked) (end : DiffEnd) (text : List ℕ) : Type 0 where

@@ -198,9 +198,20 @@ abbrev pub summary_line : Effect → List Effect → List ℕ
 summary_line base effects =
     counts_words effects ++ codes "; with nothing down: " ++ verdict_word (is_better base) (is_worse base) ++ 10 ∷ []
 
--- the report: the differences and the last line, or that there is no difference
-abbrev pub told : List ℕ → List ℕ → List ℕ
-told body summary = if length body == 0 then codes "no difference" ++ 10 ∷ [] else body ++ summary
+-- how the network has changed under a failure
+abbrev pub failure_line : Plan → Plan → Effect → List ℕ
+failure_line old new o = case_text old new o.what ++ codes ": " ++ verdict_word (is_better o) (is_worse o) ++ 10 ∷ []
 
-abbrev pub diff_text : Plan → Plan → Effect → List Effect → List LinkEnds → List LinkEnds → List ℕ
-diff_text old new base effects olds news = told (body_text old new base effects olds news) (summary_line base effects)
+-- the lines of all failures, if they are asked for
+abbrev pub failure_lines : Plan → Plan → Bool → List Effect → List ℕ
+failure_lines old new all effects = if all then flat_map (failure_line old new) effects else []
+
+-- the last line, or that there is no difference
+abbrev pub ending : List ℕ → List ℕ → List ℕ
+ending body summary = if length body == 0 then codes "no difference" ++ 10 ∷ [] else summary
+
+-- the report: the differences, the lines of failures, and the last line
+abbrev pub diff_text : Plan → Plan → Bool → Effect → List Effect → List LinkEnds → List LinkEnds → List ℕ
+diff_text old new all base effects olds news =
+    body_text old new base effects olds news ++ failure_lines old new all effects
+    ++ ending (body_text old new base effects olds news) (summary_line base effects)

@@ -36,6 +36,8 @@ pub struct Asked<'a> {
     pub compared: Compared<'a>,
     /// The most ticks of each bridge until convergence.
     pub ticks: u32,
+    /// Whether each failure has a line.
+    pub all: bool,
 }
 
 /// Returns the case in which nothing fails in either plan.
@@ -64,11 +66,13 @@ fn put_effects(
     base: &Effect,
     effects: &[Effect],
     patience: Patience,
+    all: bool,
 ) -> Result<DiffEnd, DriveFault>
     requires old { IsSound sides.now.old.now }
     requires new { IsSound sides.now.new.now }
     ensures { IfOk result (λ end. (text : List ℕ) × (string_bytes out.new ≡ string_bytes out.old ++ text)
-        × IsCompared sides.now.old.now sides.now.new.now patience.ticks patience.events base.now effects.now end text) }
+        × IsCompared sides.now.old.now sides.now.new.now patience.ticks patience.events all base.now effects.now end
+        text) }
 {
     let olds = ends_of(alloc, sides.old, patience)?;
     let news = ends_of(alloc, sides.new, patience)?;
@@ -81,6 +85,7 @@ fn put_effects(
         effects,
         olds.as_slice(),
         news.as_slice(),
+        all,
     )?;
     Ok(end_of(worsens(base, effects)))
 }
@@ -117,7 +122,15 @@ fn put_looks<R: Threads + Sync, V: FailureProgress>(
     };
     let base = look_at_case(alloc, &sides, calm(), patience)?;
     let effects = look_at_cases(rt, alloc, &sides, cases.as_slice(), patience, progress)?;
-    Ok(put_effects(alloc, out, &sides, &base, effects.as_slice(), patience)?)
+    Ok(put_effects(
+        alloc,
+        out,
+        &sides,
+        &base,
+        effects.as_slice(),
+        patience,
+        asked.all,
+    )?)
 }
 
 /// Appends the report on two plans, or that neither has the requested service. Returns how the command ends.

@@ -3,13 +3,13 @@
 ghost use Rattle.std.specs.Prelude.{◌≡◌, ◌++◌, flat_map, string_bytes, OnOk};
 ghost use Rattle.pb_lan.specs.Numbering.{numbers_from};
 ghost use Rattle.pb_lan.specs.Plans.{IsSound};
-ghost use Rattle.pb_cmd_diff.specs.Reports.{service_lines, ends_line, rest_line, body_text, told, diff_text};
-ghost use Rattle.pb_cmd_diff.specs.Reports.{summary_line};
+ghost use Rattle.pb_cmd_diff.specs.Reports.{service_lines, ends_line, rest_line, body_text, ending, diff_text};
+ghost use Rattle.pb_cmd_diff.specs.Reports.{summary_line, failure_line, failure_lines};
 
 use crate::effect::Effect;
 use crate::ends::LinkEnds;
 use crate::lines::{put_link, put_service};
-use crate::totals::{put_rest, put_summary, put_ticks};
+use crate::totals::{put_failure_line, put_rest, put_summary, put_ticks};
 use pb_frame::Memory;
 use pb_lan::Plan;
 use pb_plan_diff::put_plan_diff;
@@ -95,18 +95,50 @@ fn put_body(
     Ok(())
 }
 
-/// Appends the differences and the last line, or that there is no difference.
-fn put_told(out: &mut String, body: &str, base: &Effect, effects: &[Effect]) -> Result<(), Memory>
+/// Appends the line of each failure, if they are asked for.
+fn put_failures(
+    out: &mut String,
+    old: &Plan,
+    new: &Plan,
+    all: bool,
+    effects: &[Effect],
+) -> Result<(), Memory>
     ensures { OnOk result (string_bytes out.new ≡ string_bytes out.old
-        ++ told body.now (summary_line base.now effects.now)) }
+        ++ failure_lines old.now new.now all effects.now) }
+{
+    if all {
+        put_all_failures(out, old, new, effects)
+    } else {
+        Ok(())
+    }
+}
+
+/// Appends the line of each failure.
+fn put_all_failures(
+    out: &mut String,
+    old: &Plan,
+    new: &Plan,
+    effects: &[Effect],
+) -> Result<(), Memory>
+    ensures { OnOk result (string_bytes out.new ≡ string_bytes out.old
+        ++ flat_map (failure_line old.now new.now) effects.now) }
+{
+    for effect in effects {
+        put_failure_line(out, old, new, effect)?;
+    }
+    Ok(())
+}
+
+/// Appends the last line, or that there is no difference if `body` is empty.
+fn put_ending(out: &mut String, body: &str, base: &Effect, effects: &[Effect]) -> Result<(), Memory>
+    ensures { OnOk result (string_bytes out.new ≡ string_bytes out.old
+        ++ ending body.now (summary_line base.now effects.now)) }
 {
     if body.is_empty() {
         out.push_str("no difference\n")?;
         return Ok(());
     }
-    out.push_str(body)?;
-    put_summary(out, base, effects)?;
-    Ok(())
+    put_summary(out, base, effects)
 }
 
 /// Appends the report on the change from one plan to another, from their networks with nothing down (`base`) and under
@@ -115,9 +147,9 @@ fn put_told(out: &mut String, body: &str, base: &Effect, effects: &[Effect]) -> 
 /// First come the differences of the plans, as [`put_plan_diff`] appends them. Then come, for each service, the groups
 /// of customer ports that reached each other and cannot any more, or now reach each other, with nothing down and under
 /// each failure; then the links whose ends have another role or state with nothing down, the failures under which the
-/// bridges of one plan alone converge, and the most ticks to convergence after a failure if they differ. The last line
-/// counts the failures under which something got better or worse. If nothing differs, the only line is
-/// `no difference`.
+/// bridges of one plan alone converge, and the most ticks to convergence after a failure if they differ. If `all` is
+/// set, each failure has a line that something got better or worse, or that there is no change. The last line counts
+/// the failures under which something got better or worse, or is `no difference` if nothing differs.
 ///
 /// # Errors
 ///
@@ -131,13 +163,17 @@ pub fn put_report(
     effects: &[Effect],
     olds: &[LinkEnds],
     news: &[LinkEnds],
+    all: bool,
 ) -> Result<(), Memory>
     requires old { IsSound old.now }
     requires new { IsSound new.now }
     ensures { OnOk result (string_bytes out.new ≡ string_bytes out.old
-        ++ diff_text old.now new.now base.now effects.now olds.now news.now) }
+        ++ diff_text old.now new.now all base.now effects.now olds.now news.now) }
 {
     let mut body = String::new(alloc);
     put_body(alloc, &mut body, old, new, base, effects, olds, news)?;
-    put_told(out, body.as_str(), base, effects)
+    out.push_str(body.as_str())?;
+    put_failures(out, old, new, all, effects)?;
+    put_ending(out, body.as_str(), base, effects)?;
+    Ok(())
 }

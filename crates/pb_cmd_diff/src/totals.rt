@@ -5,7 +5,7 @@ ghost use Rattle.std.specs.List.{list_any};
 ghost use Rattle.pb_cmd_survive.specs.Reports.{has_converged};
 ghost use Rattle.pb_cmd_diff.specs.Reports.{rest_words, rest_line, is_nothing, old_rest, new_rest, most_ticks};
 ghost use Rattle.pb_cmd_diff.specs.Reports.{ticks_words, ticks_line, verdict_word, count_words, counts_words};
-ghost use Rattle.pb_cmd_diff.specs.Reports.{summary_line};
+ghost use Rattle.pb_cmd_diff.specs.Reports.{summary_line, failure_line};
 ghost use Rattle.pb_cmd_diff.specs.Verdicts.{is_better, is_worse};
 
 use crate::effect::Effect;
@@ -185,6 +185,22 @@ pub(crate) fn put_summary(out: &mut String, base: &Effect, effects: &[Effect]) -
     put_counts(out, effects)?;
     out.push_str("; with nothing down: ")?;
     out.push_str(verdict_word(is_better(base), is_worse(base)))?;
+    out.push_str("\n")?;
+    Ok(())
+}
+
+/// Appends how the network has changed under a failure.
+pub(crate) fn put_failure_line(
+    out: &mut String,
+    old: &Plan,
+    new: &Plan,
+    effect: &Effect,
+) -> Result<(), Memory>
+    ensures { OnOk result (string_bytes out.new ≡ string_bytes out.old ++ failure_line old.now new.now effect.now) }
+{
+    put_case(out, old, new, effect.what)?;
+    out.push_str(": ")?;
+    out.push_str(verdict_word(is_better(effect), is_worse(effect)))?;
     out.push_str("\n")?;
     Ok(())
 }

@@ -1,2 +1,3 @@
 pub mod Topologies
+pub mod Services
 pub mod PlanTexts

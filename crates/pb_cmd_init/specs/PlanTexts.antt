@@ -1,12 +1,13 @@
 -- The texts of the starter plan.
-use Rattle.std.specs.Prelude.{ℕ, ◌==◌, if◌then◌else◌, List, [], ◌∷◌, ◌++◌, flat_map, codes}
+use Rattle.std.specs.Prelude.{ℕ, ◌+◌, ◌==◌, ◌&&◌, if◌then◌else◌, List, [], ◌∷◌, ◌++◌, flat_map, codes}
 use Rattle.std.specs.Fmt.{decimal}
 use Rattle.std.specs.List.{range_with_len}
 use Rattle.pb_frame.specs.Hex.{mac_text}
-use Rattle.pb_cmd_init.specs.Topologies.{bridge_count, link_count, port_count, ends_of, site_of}
+use Rattle.pb_cmd_init.specs.Services.{service_count, service_name, service_vid, service_port, name_end}
+use Rattle.pb_cmd_init.specs.Topologies.{bridge_count, link_count, site_count, ends_of, site_bridge}
 use Rattle.pb_cmd_init.specs.declared.topology.Ends.{Ends}
 use Rattle.pb_cmd_init.specs.declared.topology.Topology.{Topology}
-use Rattle.pb_cmd_init.specs.declared.topology.Topology.TheVariants.{Line, Ring, Star}
+use Rattle.pb_cmd_init.specs.declared.topology.Topology.TheVariants.{Line, Ring, Star, DualHomed}
 
 -- the head of the file: what it is, and the next commands
 abbrev pub head_text : List ℕ
@@ -17,7 +18,8 @@ head_text =
     ++ codes "#   pbnet run FILE     runs the network, and counts the frames that enter and leave;\n"
     ++ codes "#   pbnet step FILE    drives the network event by event from a script on standard input.\n"
     ++ codes "#\n"
-    ++ codes "# docs/PLAN_FILE.md describes every key. Remove a # directly before a key or a table to use it.\n"
+    ++ codes "# docs/PLAN_FILE.md describes every key, and pbnet help plan lists them. Remove a # directly before\n"
+    ++ codes "# a key or a table to use it.\n"
     ++ codes "\n"
     ++ codes "[network]\n"
 
@@ -53,6 +55,18 @@ abbrev pub keys_text : Topology → List ℕ
 keys_text (Line n) = fixed_text
 keys_text (Ring n) = rstp_text
 keys_text (Star n) = fixed_text
+keys_text (DualHomed n) = rstp_text
+
+-- its other keys, as comments
+abbrev pub further_text : List ℕ
+further_text =
+    codes "# The ticks until a learned station is forgotten, and the frames that wait between two places of a run:\n"
+    ++ codes "#ageing = 300\n"
+    ++ codes "#ring = 64\n"
+    ++ codes "# The most steps of a place and turns of a thread, and, in place of tick_ms, the turns of a tick:\n"
+    ++ codes "#steps = 1000000\n"
+    ++ codes "#turns = 1000000000\n"
+    ++ codes "#tick_every = 0\n"
 
 -- the comment on bridges and links
 abbrev pub places_text : List ℕ
@@ -60,11 +74,43 @@ places_text =
     codes "\n"
     ++ codes "# The bridges, each with an address and the ports 1 to 16, and the links between them.\n"
 
+-- the further keys of the first bridge, as comments
+abbrev pub bridge_keys_text : List ℕ
+bridge_keys_text =
+    codes "# The priority (the bridge with the least is the root of the tree), and the frames that wait at a port:\n"
+    ++ codes "#priority = 32768\n"
+    ++ codes "#queue = 64\n"
+
+abbrev pub bridge_keys : ℕ → List ℕ
+bridge_keys bridge = if bridge == 1 then bridge_keys_text else []
+
 -- a bridge, whose address ends in its number
-abbrev pub bridge_text : ℕ → List ℕ
-bridge_text bridge =
+abbrev pub bridge_table : ℕ → List ℕ
+bridge_table bridge =
     codes "\n[[bridge]]\nname = \"B" ++ decimal bridge
     ++ codes "\"\naddress = \"" ++ mac_text (2 ∷ 0 ∷ 0 ∷ 0 ∷ 0 ∷ bridge ∷ []) ++ codes "\"\n"
+
+abbrev pub bridge_text : ℕ → List ℕ
+bridge_text bridge = bridge_table bridge ++ bridge_keys bridge
+
+-- the further keys of the first link, as comments
+abbrev pub link_keys_text : List ℕ
+link_keys_text =
+    codes "# Of each end: path cost, port priority, state without RSTP, and services (default: all).\n"
+    ++ codes "#a_cost = 20000\n"
+    ++ codes "#b_cost = 20000\n"
+    ++ codes "#a_priority = 128\n"
+    ++ codes "#b_priority = 128\n"
+    ++ codes "#a_state = \"forwarding\"\n"
+    ++ codes "#b_state = \"forwarding\"\n"
+    ++ codes "#a_services = [\"red\"]\n"
+    ++ codes "#b_services = [\"red\"]\n"
+    ++ codes "# The numbers of the frames that the link loses from a to b, and back. The first frame has number 0.\n"
+    ++ codes "#lost_ab = [0]\n"
+    ++ codes "#lost_ba = [2, 3]\n"
+
+abbrev pub link_keys : ℕ → List ℕ
+link_keys link = if link == 1 then link_keys_text else []
 
 -- a link between these ends
 abbrev pub ends_text : ℕ → Ends → List ℕ
@@ -74,33 +120,57 @@ ends_text link ends =
     ++ codes "\nb = \"B" ++ decimal ends.b ++ codes "\"\nb_port = " ++ decimal ends.b_port ++ codes "\n"
 
 abbrev pub link_text : Topology → ℕ → List ℕ
-link_text topology link = ends_text link (ends_of topology link)
+link_text topology link = ends_text link (ends_of topology link) ++ link_keys link
 
--- the service, and the comment on customer ports
-abbrev pub service_text : List ℕ
-service_text =
+-- the comment on services
+abbrev pub services_head : List ℕ
+services_head =
     codes "\n"
     ++ codes "# A service connects customer ports: a frame that enters one of them can leave only the others of this\n"
     ++ codes "# service. Between bridges its frames have an S-tag with this VID, 1 to 4094.\n"
-    ++ codes "[[service]]\n"
-    ++ codes "name = \"red\"\n"
-    ++ codes "vid = 100\n"
-    ++ codes "\n"
-    ++ codes "# The customer ports. Each is a port of a bridge.\n"
 
--- the frame that enters at the first customer port
-abbrev pub broadcast_text : List ℕ
-broadcast_text =
+-- a service
+abbrev pub service_text : ℕ → List ℕ
+service_text service =
+    codes "[[service]]\nname = \"" ++ service_name service ++ codes "\"\nvid = " ++ decimal (service_vid service)
+    ++ codes "\n\n"
+
+-- the comment on customer ports
+abbrev pub ports_head : List ℕ
+ports_head =
+    codes "# The customer ports. Each is a port of a bridge.\n"
+
+abbrev pub services_text : ℕ → List ℕ
+services_text services = services_head ++ flat_map service_text (range_with_len 1 services) ++ ports_head
+
+-- the further keys of the first customer port: the frame that enters there, and comments
+abbrev pub first_port_text : List ℕ
+first_port_text =
     codes "# The frames that enter here, in hexadecimal digits: one broadcast (destination, source, type, data).\n"
     ++ codes "in = [\"ffffffffffff02000000010108004142\"]\n"
+    ++ codes "# The kind, the priority of frames without a priority tag, and the frames that wait for the device:\n"
+    ++ codes "#kind = \"memory\"\n"
+    ++ codes "#pcp = 0\n"
+    ++ codes "#queue = 64\n"
 
-abbrev pub in_text : ℕ → List ℕ
-in_text port = if port == 1 then broadcast_text else []
+abbrev pub first_text : ℕ → ℕ → List ℕ
+first_text service site = if (service == 1) && (site == 1) then first_port_text else []
 
-abbrev pub port_text : Topology → ℕ → List ℕ
-port_text topology port =
-    codes "\n[[port]]\nname = \"C" ++ decimal port ++ codes "\"\nbridge = \"B" ++ decimal (site_of topology port)
-    ++ codes "\"\nport = 3\nservice = \"red\"\n" ++ in_text port
+-- a customer port of a site, with the end of its name, its bridge, its local port and the name of its service
+abbrev pub port_table : ℕ → List ℕ → ℕ → ℕ → List ℕ → List ℕ
+port_table site end bridge port service =
+    codes "\n[[port]]\nname = \"C" ++ decimal site ++ end ++ codes "\"\nbridge = \"B" ++ decimal bridge
+    ++ codes "\"\nport = " ++ decimal port ++ codes "\nservice = \"" ++ service ++ codes "\"\n"
+
+-- the customer port of a service at a site
+abbrev pub port_text : Topology → ℕ → ℕ → List ℕ
+port_text topology service site =
+    port_table site (name_end service) (site_bridge topology site) (service_port service) (service_name service)
+    ++ first_text service site
+
+-- the customer ports of a service at all sites
+abbrev pub ports_text : Topology → ℕ → List ℕ
+ports_text topology service = flat_map (port_text topology service) (range_with_len 1 (site_count topology))
 
 -- the comment on ports of other kinds
 abbrev pub needs_text : List ℕ
@@ -108,28 +178,60 @@ needs_text =
     codes "\n"
     ++ codes "# Ports of other kinds: a capture port reads frames from one file (pcap) and writes to another, and a\n"
     ++ codes "# socket port exchanges frames over a Unix socket. The file to read must exist, and a peer must listen.\n"
+    ++ codes "# With listen in place of path the port creates the socket. A plan has at most 128 customer ports.\n"
 
 -- a port between capture files, as a comment
-abbrev pub capture_text : ℕ → List ℕ
-capture_text bridge =
+abbrev pub capture_text : ℕ → ℕ → List ℕ
+capture_text bridge port =
     codes "\n#[[port]]\n#name = \"capture\"\n#bridge = \"B" ++ decimal bridge
-    ++ codes "\"\n#port = 4\n#service = \"red\"\n#kind = \"capture\"\n#read = \"in.pcap\"\n#write = \"out.pcap\"\n"
+    ++ codes "\"\n#port = " ++ decimal port
+    ++ codes "\n#service = \"red\"\n#kind = \"capture\"\n#read = \"in.pcap\"\n#write = \"out.pcap\"\n"
+    ++ codes "#stamp = \"ticks\"\n"
 
 -- a port at a socket, as a comment
-abbrev pub socket_text : ℕ → List ℕ
-socket_text bridge =
+abbrev pub socket_text : ℕ → ℕ → List ℕ
+socket_text bridge port =
     codes "\n#[[port]]\n#name = \"socket\"\n#bridge = \"B" ++ decimal bridge
-    ++ codes "\"\n#port = 5\n#service = \"red\"\n#kind = \"socket\"\n#path = \"port.sock\"\n"
+    ++ codes "\"\n#port = " ++ decimal port
+    ++ codes "\n#service = \"red\"\n#kind = \"socket\"\n#path = \"port.sock\"\n"
 
-abbrev pub kinds_text : ℕ → List ℕ
-kinds_text bridge = needs_text ++ capture_text bridge ++ socket_text bridge
+-- ports of other kinds at a bridge, at the local ports after those of the services
+abbrev pub kinds_text : ℕ → ℕ → List ℕ
+kinds_text bridge services =
+    needs_text ++ capture_text bridge (services + 3) ++ socket_text bridge (services + 4)
 
--- the whole file
-abbrev pub plan_text : Topology → List ℕ
-plan_text topology =
-    head_text ++ keys_text topology ++ places_text
+-- an event and an acceptance, as comments
+abbrev pub failures_of_links : List ℕ
+failures_of_links =
+    codes "\n"
+    ++ codes "# An event of a run: at tick 300 of B1 its port 1 is disabled. With up = true it is enabled.\n"
+    ++ codes "#[[event]]\n"
+    ++ codes "#at = 300\n"
+    ++ codes "#bridge = \"B1\"\n"
+    ++ codes "#port = 1\n"
+    ++ codes "#up = false\n"
+    ++ codes "\n"
+    ++ codes "# A failure that survive accepts, for all services or for one. In place of link: bridge, or links\n"
+    ++ codes "# with two names.\n"
+    ++ codes "#[[accept]]\n"
+    ++ codes "#link = \"L1\"\n"
+    ++ codes "#service = \"red\"\n"
+
+-- a network without links has neither
+abbrev pub failures_text : Topology → List ℕ
+failures_text topology = if link_count topology == 0 then [] else failures_of_links
+
+-- the whole file with its services
+abbrev pub whole_text : Topology → ℕ → List ℕ
+whole_text topology services =
+    head_text ++ keys_text topology ++ further_text ++ places_text
     ++ flat_map bridge_text (range_with_len 1 (bridge_count topology))
     ++ flat_map (link_text topology) (range_with_len 1 (link_count topology))
-    ++ service_text
-    ++ flat_map (port_text topology) (range_with_len 1 (port_count topology))
-    ++ kinds_text (site_of topology 1)
+    ++ services_text services
+    ++ flat_map (ports_text topology) (range_with_len 1 services)
+    ++ kinds_text (site_bridge topology 1) services
+    ++ failures_text topology
+
+-- the whole file with n services, or four
+abbrev pub plan_text : Topology → ℕ → List ℕ
+plan_text topology n = whole_text topology (service_count n)

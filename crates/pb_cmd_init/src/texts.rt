@@ -1,8 +1,8 @@
-//! The parts of a starter plan that occur once: head, keys, service, and ports of other kinds.
+//! The parts of a starter plan that occur once: head, keys, ports of other kinds, and failures.
 
-ghost use Rattle.std.specs.Prelude.{◌≡◌, ◌++◌, string_bytes, OnOk};
-ghost use Rattle.pb_cmd_init.specs.PlanTexts.{head_text, keys_text, places_text, service_text};
-ghost use Rattle.pb_cmd_init.specs.PlanTexts.{capture_text, socket_text, kinds_text};
+ghost use Rattle.std.specs.Prelude.{◌≡◌, ◌≤◌, ◌++◌, string_bytes, OnOk};
+ghost use Rattle.pb_cmd_init.specs.PlanTexts.{head_text, keys_text, further_text, places_text};
+ghost use Rattle.pb_cmd_init.specs.PlanTexts.{capture_text, socket_text, kinds_text, failures_text};
 
 use crate::topology::Topology;
 use pb_frame::Memory;
@@ -15,7 +15,8 @@ const HEAD: &str = "\
 #   pbnet run FILE     runs the network, and counts the frames that enter and leave;\n\
 #   pbnet step FILE    drives the network event by event from a script on standard input.\n\
 #\n\
-# docs/PLAN_FILE.md describes every key. Remove a # directly before a key or a table to use it.\n\
+# docs/PLAN_FILE.md describes every key, and pbnet help plan lists them. Remove a # directly before\n\
+# a key or a table to use it.\n\
 \n\
 [network]\n";
 
@@ -44,27 +45,43 @@ tick_ms = 10\n\
 # No frame enters before 200 ticks, while the bridges converge.\n\
 hold = 200\n";
 
+/// The other keys of a network.
+const FURTHER: &str = "\
+# The ticks until a learned station is forgotten, and the frames that wait between two places of a run:\n\
+#ageing = 300\n\
+#ring = 64\n\
+# The most steps of a place and turns of a thread, and, in place of tick_ms, the turns of a tick:\n\
+#steps = 1000000\n\
+#turns = 1000000000\n\
+#tick_every = 0\n";
+
 /// The comment on bridges and links.
 const PLACES: &str = "\
 \n\
 # The bridges, each with an address and the ports 1 to 16, and the links between them.\n";
 
-/// The service, and the comment on customer ports.
-const SERVICE: &str = "\
-\n\
-# A service connects customer ports: a frame that enters one of them can leave only the others of this\n\
-# service. Between bridges its frames have an S-tag with this VID, 1 to 4094.\n\
-[[service]]\n\
-name = \"red\"\n\
-vid = 100\n\
-\n\
-# The customer ports. Each is a port of a bridge.\n";
-
 /// The comment on ports of other kinds.
 const KINDS: &str = "\
 \n\
 # Ports of other kinds: a capture port reads frames from one file (pcap) and writes to another, and a\n\
-# socket port exchanges frames over a Unix socket. The file to read must exist, and a peer must listen.\n";
+# socket port exchanges frames over a Unix socket. The file to read must exist, and a peer must listen.\n\
+# With listen in place of path the port creates the socket. A plan has at most 128 customer ports.\n";
+
+/// An event of a run, and an acceptance.
+const FAILURES: &str = "\
+\n\
+# An event of a run: at tick 300 of B1 its port 1 is disabled. With up = true it is enabled.\n\
+#[[event]]\n\
+#at = 300\n\
+#bridge = \"B1\"\n\
+#port = 1\n\
+#up = false\n\
+\n\
+# A failure that survive accepts, for all services or for one. In place of link: bridge, or links\n\
+# with two names.\n\
+#[[accept]]\n\
+#link = \"L1\"\n\
+#service = \"red\"\n";
 
 /// Returns the keys of the network.
 fn keys_of(topology: Topology) -> &'static str
@@ -72,7 +89,7 @@ fn keys_of(topology: Topology) -> &'static str
 {
     match topology {
         Topology::Line(_) | Topology::Star(_) => FIXED,
-        Topology::Ring(_) => RSTP,
+        Topology::Ring(_) | Topology::DualHomed(_) => RSTP,
     }
 }
 
@@ -83,67 +100,76 @@ fn keys_of(topology: Topology) -> &'static str
 /// `Memory` if an allocation failed. A part of it may follow the text then.
 pub(crate) fn put_head(out: &mut String, topology: Topology) -> Result<(), Memory>
     ensures { OnOk result (string_bytes out.new ≡ string_bytes out.old
-        ++ (head_text ++ keys_text topology ++ places_text)) }
+        ++ (head_text ++ keys_text topology ++ further_text ++ places_text)) }
 {
     out.push_str(HEAD)?;
     out.push_str(keys_of(topology))?;
+    out.push_str(FURTHER)?;
     out.push_str(PLACES)?;
     Ok(())
 }
 
-/// Appends the service to a text.
-///
-/// # Errors
-///
-/// `Memory` if an allocation failed. The text is unchanged then.
-pub(crate) fn put_service(out: &mut String) -> Result<(), Memory>
-    ensures { OnOk result (string_bytes out.new ≡ string_bytes out.old ++ service_text) }
+/// Returns an event and an acceptance: nothing for a network without links.
+fn failures_of(topology: Topology) -> &'static str
+    ensures { result.now ≡ failures_text topology }
 {
-    out.push_str(SERVICE)?;
-    Ok(())
+    if topology.links() == 0 { "" } else { FAILURES }
 }
 
-/// Appends a port between capture files at this bridge, as a comment.
+/// Appends a port between capture files to a text, as a comment.
 ///
 /// # Errors
 ///
 /// `Memory` if an allocation failed. A part of it may follow the text then.
-fn put_capture(out: &mut String, bridge: u8) -> Result<(), Memory>
-    ensures { OnOk result (string_bytes out.new ≡ string_bytes out.old ++ capture_text bridge) }
+fn put_capture(out: &mut String, bridge: u8, port: u8) -> Result<(), Memory>
+    ensures { OnOk result (string_bytes out.new ≡ string_bytes out.old ++ capture_text bridge port) }
 {
     write!(
         out,
-        "\n#[[port]]\n#name = \"capture\"\n#bridge = \"B{bridge}\"\n#port = 4\n#service = \"red\"\n\
-        #kind = \"capture\"\n#read = \"in.pcap\"\n#write = \"out.pcap\"\n"
+        "\n#[[port]]\n#name = \"capture\"\n#bridge = \"B{bridge}\"\n#port = {port}\n#service = \"red\"\n\
+        #kind = \"capture\"\n#read = \"in.pcap\"\n#write = \"out.pcap\"\n#stamp = \"ticks\"\n"
     )?;
     Ok(())
 }
 
-/// Appends a port at a socket at this bridge, as a comment.
+/// Appends a port at a socket to a text, as a comment.
 ///
 /// # Errors
 ///
 /// `Memory` if an allocation failed. A part of it may follow the text then.
-fn put_socket(out: &mut String, bridge: u8) -> Result<(), Memory>
-    ensures { OnOk result (string_bytes out.new ≡ string_bytes out.old ++ socket_text bridge) }
+fn put_socket(out: &mut String, bridge: u8, port: u8) -> Result<(), Memory>
+    ensures { OnOk result (string_bytes out.new ≡ string_bytes out.old ++ socket_text bridge port) }
 {
     write!(
         out,
-        "\n#[[port]]\n#name = \"socket\"\n#bridge = \"B{bridge}\"\n#port = 5\n#service = \"red\"\n#kind = \"socket\"\n\
-        #path = \"port.sock\"\n"
+        "\n#[[port]]\n#name = \"socket\"\n#bridge = \"B{bridge}\"\n#port = {port}\n#service = \"red\"\n\
+        #kind = \"socket\"\n#path = \"port.sock\"\n"
     )?;
     Ok(())
 }
 
-/// Appends ports of other kinds at this bridge, as comments.
+/// Appends ports of other kinds at this bridge, as comments. Their local ports follow those of so many services.
 ///
 /// # Errors
 ///
 /// `Memory` if an allocation failed. A part of them may follow the text then.
-pub(crate) fn put_kinds(out: &mut String, bridge: u8) -> Result<(), Memory>
-    ensures { OnOk result (string_bytes out.new ≡ string_bytes out.old ++ kinds_text bridge) }
+pub(crate) fn put_kinds(out: &mut String, bridge: u8, services: u8) -> Result<(), Memory>
+    requires { services ≤ 4 }
+    ensures { OnOk result (string_bytes out.new ≡ string_bytes out.old ++ kinds_text bridge services) }
 {
     out.push_str(KINDS)?;
-    put_capture(out, bridge)?;
-    put_socket(out, bridge)
+    put_capture(out, bridge, services + 3)?;
+    put_socket(out, bridge, services + 4)
+}
+
+/// Appends an event and an acceptance to a text, as comments. A network without links has neither.
+///
+/// # Errors
+///
+/// `Memory` if an allocation failed. The text is unchanged then.
+pub(crate) fn put_failures(out: &mut String, topology: Topology) -> Result<(), Memory>
+    ensures { OnOk result (string_bytes out.new ≡ string_bytes out.old ++ failures_text topology) }
+{
+    out.push_str(failures_of(topology))?;
+    Ok(())
 }

@@ -22,9 +22,14 @@ use Rattle.pb_net.specs.declared.fault.NetFault.TheVariants.{NoSuch}
 use Rattle.pb_step_script.specs.Answers.{step_line, idle_line, no_such_line}
 use Rattle.pb_cmd_step.proofs.PlaceLemmas.{named_place}
 use Rattle.pb_step_script.specs.Lines.{Asks}
+use Rattle.pb_cmd_step.specs.Modes.{TestView, noted, TestAnswer, comment, expectation, asked, LineAnswer, LineAnswers}
+use Rattle.pb_cmd_step.specs.Modes.{PrintsLines, PrintsLinesBeginning, HaveAnswered, StepsProgress}
 use Rattle.pb_cmd_step.specs.Steps.{newest_at, StepAnswer, bad, absent, idle, done, StepAnswers, start_of}
-use Rattle.pb_cmd_step.specs.Steps.{IsReport, IsAtLimit, no_report, part_report, PrintsSteps, HaveAnswered}
-use Rattle.pb_cmd_step.specs.Steps.{PrintsStepsBeginning, StepsProgress}
+use Rattle.pb_cmd_step.specs.Steps.{IsReport, IsAtLimit, no_report, part_report, PrintsSteps}
+use Rattle.pb_cmd_step.specs.Steps.{PrintsStepsBeginning}
+use Rattle.pb_cmd_step.specs.Tests.{Notes, no_notes, Expects, is_comment}
+use Rattle.pb_cmd_step.specs.declared.testing.Mode.{Mode}
+use Rattle.pb_cmd_step.specs.declared.testing.Mode.TheVariants.{Script, Test}
 use Rattle.pb_messages.specs.BadLines.{bad_line}
 use Rattle.pb_messages.specs.declared.fault.CommandFault.{CommandFault}
 use Rattle.pb_report.specs.RecordTexts.{IsRecordText}
@@ -32,20 +37,21 @@ use Rattle.pb_messages.specs.declared.fault.CommandFault.TheVariants.{Steps, Mem
 use Rattle.pb_messages.proofs.LineLemmas.{whole_line, uncut, parts_of_map}
 
 -- the output of the first lines, and that of one more
-StepAnswers-snoc : (limit n : ℕ) (front : List (List ℕ)) (line : List ℕ) (old mid new : NetView) (text more : List ℕ)
-    → StepAnswers limit n front old mid text → StepAnswer limit (n + length front) line mid new more
-    → StepAnswers limit n (front ++ line ∷ []) old new (text ++ more)
-StepAnswers-snoc limit n [] line old mid new text more so_far here =
+LineAnswers-snoc : (mode : Mode) (limit n : ℕ) (front : List (List ℕ)) (line : List ℕ) (old mid new : TestView)
+    (text more : List ℕ)
+    → LineAnswers mode limit n front old mid text → LineAnswer mode limit (n + length front) line mid new more
+    → LineAnswers mode limit n (front ++ line ∷ []) old new (text ++ more)
+LineAnswers-snoc mode limit n [] line old mid new text more so_far here =
     let at_n : n + 0 ≡ n = omega arith in
-    let first : StepAnswer limit n line old new more = rw (at_n, so_far.0) at here in
+    let first : LineAnswer mode limit n line old new more = rw (at_n, so_far.0) at here in
     (new, more, [], first, (refl, refl), ap (λ z. z ++ more) so_far.1 ∙ sym (append-nil more))
-StepAnswers-snoc limit n (l ∷ front) line old mid new text more (between, head, tail, first, others, e) here =
+LineAnswers-snoc mode limit n (l ∷ front) line old mid new text more (between, head, tail, first, others, e) here =
     let at_n : n + suc (length front) ≡ suc n + length front = omega arith in (
       between,
       head,
       tail ++ more,
       first,
-      StepAnswers-snoc limit (suc n) front line between mid new tail more others (rw at_n at here),
+      LineAnswers-snoc mode limit (suc n) front line between mid new tail more others (rw at_n at here),
       ap (λ z. z ++ more) e ∙ append_assoc head tail more,
     )
 
@@ -68,18 +74,96 @@ StepAnswer-uncut limit n line old new text (idle event a i t) = idle event (Asks
 StepAnswer-uncut limit n line old new text (done event place step a i l w t) =
     done event place step (Asks-uncut limit old.plan line event a) i l w t
 
-StepAnswers-uncut : (limit n : ℕ) (lines : List (List ℕ)) (old new : NetView) (text : List ℕ)
-    → StepAnswers limit n (map (λ line. take (limit + 1) line) lines) old new text
-    → StepAnswers limit n lines old new text
-StepAnswers-uncut limit n [] old new text a = a
-StepAnswers-uncut limit n (line ∷ lines) old new text (mid, front, back, first, others, e) = (
+-- a line that was cut to one octet above the limit is a comment if the whole line is one
+is_comment-uncut : (limit : ℕ) (line : List ℕ) → is_comment (take (limit + 1) line) ≡ is_comment line
+is_comment-uncut limit [] = grind arith
+is_comment-uncut limit (c ∷ line) = grind arith
+
+-- a cut line expects what the whole line expects
+Expects-uncut : (limit : ℕ) (line wanted : List ℕ) → Expects limit (take (limit + 1) line) wanted
+    → Expects limit line wanted
+Expects-uncut limit line wanted e = subst (λ z. Expects limit z wanted) (whole_line limit line e.short) e
+
+Expects-cut : (limit : ℕ) (line wanted : List ℕ) → Expects limit line wanted
+    → Expects limit (take (limit + 1) line) wanted
+Expects-cut limit line wanted e = subst (λ z. Expects limit z wanted) (sym (uncut limit line e.short)) e
+
+TestAnswer-uncut : (limit n : ℕ) (line : List ℕ) (old new : TestView) (text : List ℕ)
+    → TestAnswer limit n (take (limit + 1) line) old new text → TestAnswer limit n line old new text
+TestAnswer-uncut limit n line old new text (comment is s t) = comment (sym (is_comment-uncut limit line) ∙ is) s t
+TestAnswer-uncut limit n line old new text (expectation wanted is e s k t) =
+    expectation wanted (sym (is_comment-uncut limit line) ∙ is) (Expects-uncut limit line wanted e) s k t
+TestAnswer-uncut limit n line old new text (asked is none a k) =
+    asked (sym (is_comment-uncut limit line) ∙ is) (λ wanted e. none wanted (Expects-cut limit line wanted e))
+    (StepAnswer-uncut limit n line old.net new.net text a) k
+
+LineAnswer-uncut : (mode : Mode) (limit n : ℕ) (line : List ℕ) (old new : TestView) (text : List ℕ)
+    → LineAnswer mode limit n (take (limit + 1) line) old new text → LineAnswer mode limit n line old new text
+LineAnswer-uncut Script limit n line old new text (a, s) = (StepAnswer-uncut limit n line old.net new.net text a, s)
+LineAnswer-uncut Test limit n line old new text a = TestAnswer-uncut limit n line old new text a
+
+LineAnswers-uncut : (mode : Mode) (limit n : ℕ) (lines : List (List ℕ)) (old new : TestView) (text : List ℕ)
+    → LineAnswers mode limit n (map (λ line. take (limit + 1) line) lines) old new text
+    → LineAnswers mode limit n lines old new text
+LineAnswers-uncut mode limit n [] old new text a = a
+LineAnswers-uncut mode limit n (line ∷ lines) old new text (mid, front, back, first, others, e) = (
   mid,
   front,
   back,
-  StepAnswer-uncut limit n line old mid front first,
-  StepAnswers-uncut limit (suc n) lines mid
+  LineAnswer-uncut mode limit n line old mid front first,
+  LineAnswers-uncut mode limit (suc n) lines mid
       new back others,
   e,
+)
+
+-- the lines of a script that is no test have the output of their events
+plain_answers : (limit n : ℕ) (lines : List (List ℕ)) (old new : TestView) (text : List ℕ)
+    → LineAnswers Script limit n lines old new text → StepAnswers limit n lines old.net new.net text
+plain_answers limit n [] old new text a = (ap (λ (v : TestView). v.net) a.0, a.1)
+plain_answers limit n (line ∷ lines) old new text (mid, front, back, first, others, e) =
+    (mid.net, front, back, first.0, plain_answers limit (suc n) lines mid new back others, e)
+
+-- a script that is no test prints the output of its events and the report
+pub plain_prints : (limit : ℕ) (plan : Plan) (input : Option (List ℕ)) (old new : Notes)
+    (before after : Option (List ℕ))
+    → PrintsLines Script limit plan input old new before after → PrintsSteps limit plan input before after
+plain_prints limit plan None old new before after p = tt
+plain_prints limit plan (Some octets) old new before after (text, written, is) = (
+  text,
+  written,
+  record {
+    last = is.last;
+    answers = is.answers;
+    are_answers = plain_answers limit 1 (lines_of octets) (noted (start_of plan) old) (noted is.last new) is.answers
+        is.are_answers;
+    lawful = is.lawful;
+    report = is.report;
+    is_report = is.is_report;
+    text_is = is.text_is;
+  },
+)
+
+pub plain_begins : (fault : CommandFault) (limit : ℕ) (plan : Plan) (input : Option (List ℕ)) (old : Notes)
+    (before after : Option (List ℕ))
+    → PrintsLinesBeginning fault Script limit plan input old before after
+    → PrintsStepsBeginning fault limit plan input before after
+plain_begins fault limit plan None old before after p = tt
+plain_begins fault limit plan (Some octets) old before after (text, new, written, is) = (
+  text,
+  written,
+  record {
+    front = is.front;
+    back = is.back;
+    lines = is.lines;
+    last = is.last;
+    answers = is.answers;
+    are_answers = plain_answers limit 1 is.front (noted (start_of plan) old) (noted is.last new) is.answers
+        is.are_answers;
+    steps = is.steps;
+    more = is.more;
+    follows = is.follows;
+    text_is = is.text_is;
+  },
 )
 
 -- the limit of steps that the next cut line meets is met by the next line
@@ -92,31 +176,33 @@ IsAtLimit-uncut limit net (l ∷ lines) line rest e (event, asks, met) =
     (event, Asks-uncut limit net.plan l event (subst (λ z. Asks limit net.plan z event) same asks), met)
 
 -- before line 1 nothing is written
-pub steps_start : (limit : ℕ) (plan : Plan) (input : Option (List ℕ)) (held : List ℕ) (before : Option (List ℕ))
-    (net : NetView) → held ≡ [] → net ≡ start_of plan
-    → StepsProgress limit 1 plan input held input before before net
-steps_start limit plan None held before net e f = tt
-steps_start limit plan (Some octets) held before net e f = record {
+pub steps_start : (mode : Mode) (limit : ℕ) (plan : Plan) (notes : Notes) (input : Option (List ℕ)) (held : List ℕ)
+    (before : Option (List ℕ)) (net : NetView) → held ≡ [] → net ≡ start_of plan
+    → StepsProgress mode limit 1 plan input held input notes before before (noted net notes)
+steps_start mode limit plan notes None held before net e f = tt
+steps_start mode limit plan notes (Some octets) held before net e f = record {
   front = [];
   lines = ap (λ z. cut_lines limit (z ++ octets)) (sym e);
   number = refl;
   text = [];
   written = Appends-nil before;
-  answers = (f, refl);
+  answers = (ap (λ n. noted n notes) f, refl);
 }
 
 -- progress goes on with the output of a line
-pub steps_go_on : (limit n : ℕ) (plan : Plan) (input mid left before now after : Option (List ℕ))
-    (held held' line text : List ℕ) (old new : NetView)
-    → StepsProgress limit n plan input held mid before now old → GivesLine limit mid held left held' line
-    → StepAnswer limit n line old new text
-    → Appends now after text → StepsProgress limit (n + 1) plan input held' left before after new
-steps_go_on limit n plan None mid left before now after held held' line text old new p gives a w = tt
-steps_go_on limit n plan (Some octets) None left before now after held held' line text old new p gives a w = absurd p
-steps_go_on limit n plan (Some octets) (Some rest) None before now after held held' line text old new p gives a w =
-    absurd gives
-steps_go_on limit n plan (Some octets) (Some rest) (Some rest') before now after held held' line text old new p gives
-    a w =
+pub steps_go_on : (mode : Mode) (limit n : ℕ) (plan : Plan) (notes : Notes)
+    (input mid left before now after : Option (List ℕ))
+    (held held' line text : List ℕ) (old new : TestView)
+    → StepsProgress mode limit n plan input held mid notes before now old → GivesLine limit mid held left held' line
+    → LineAnswer mode limit n line old new text
+    → Appends now after text → StepsProgress mode limit (n + 1) plan input held' left notes before after new
+steps_go_on mode limit n plan notes None mid left before now after held held' line text old new p gives a w = tt
+steps_go_on mode limit n plan notes (Some octets) None left before now after held held' line text old new p gives a w =
+    absurd p
+steps_go_on mode limit n plan notes (Some octets) (Some rest) None before now after held held' line text old new p gives
+    a w = absurd gives
+steps_go_on mode limit n plan notes (Some octets) (Some rest) (Some rest') before now after held held' line text old new
+    p gives a w =
     let at_n : 1 + length p.front ≡ n = omega (arith, p.number) in
     record {
       front = p.front ++ line ∷ [];
@@ -125,41 +211,44 @@ steps_go_on limit n plan (Some octets) (Some rest) (Some rest') before now after
       number = omega (arith, p.number, length-append p.front (line ∷ []));
       text = p.text ++ text;
       written = Appends-trans before now after p.text text p.written w;
-      answers = StepAnswers-snoc limit 1 p.front line (start_of plan) old new p.text text p.answers (rw at_n a);
+      answers = LineAnswers-snoc mode limit 1 p.front line (noted (start_of plan) notes) old new p.text text p.answers
+          (rw at_n a);
     }
 
 -- the output is complete if no line remains
-pub steps_end : (limit n : ℕ) (plan : Plan) (input left before now : Option (List ℕ)) (held : List ℕ) (net : NetView)
-    → StepsProgress limit n plan input held left before now net → HasNoLine limit left held
-    → HaveAnswered limit plan input before now net
-steps_end limit n plan None left before now held net p none = tt
-steps_end limit n plan (Some octets) None before now held net p none = absurd p
-steps_end limit n plan (Some octets) (Some rest) before now held net p none =
+pub steps_end : (mode : Mode) (limit n : ℕ) (plan : Plan) (notes : Notes) (input left before now : Option (List ℕ))
+    (held : List ℕ) (last : TestView)
+    → StepsProgress mode limit n plan input held left notes before now last → HasNoLine limit left held
+    → HaveAnswered mode limit plan input notes before now last
+steps_end mode limit n plan notes None left before now held last p none = tt
+steps_end mode limit n plan notes (Some octets) None before now held last p none = absurd p
+steps_end mode limit n plan notes (Some octets) (Some rest) before now held last p none =
     let all : cut_lines limit octets ≡ p.front = p.lines ∙ ap (λ z. p.front ++ z) none ∙ append-nil p.front in (
       p.text,
       p.written,
-      StepAnswers-uncut limit 1 (lines_of octets) (start_of plan) net p.text (rw all p.answers),
+      LineAnswers-uncut mode limit 1 (lines_of octets) (noted (start_of plan) notes) last p.text (rw all p.answers),
     )
 
 -- the output of the first lines is the text after a fault
-steps_left : (fault : CommandFault) (limit n : ℕ) (plan : Plan) (octets held rest : List ℕ)
-    (before now : Option (List ℕ))
-    (net : NetView)
-    → StepsProgress limit n plan (Some octets) held (Some rest) before now net
+steps_left : (fault : CommandFault) (mode : Mode) (limit n : ℕ) (plan : Plan) (notes : Notes)
+    (octets held rest : List ℕ) (before now : Option (List ℕ)) (last : TestView)
+    → StepsProgress mode limit n plan (Some octets) held (Some rest) notes before now last
     → ((back : List (List ℕ)) → cut_lines limit (held ++ rest) ≡ map (λ line. take (limit + 1) line) back
-    → fault ≡ Steps → IsAtLimit limit net back)
-    → PrintsStepsBeginning fault limit plan (Some octets) before now
-steps_left fault limit n plan octets held rest before now net p at =
+    → fault ≡ Steps → IsAtLimit limit last.net back)
+    → PrintsLinesBeginning fault mode limit plan (Some octets) notes before now
+steps_left fault mode limit n plan notes octets held rest before now last p at =
     let parts = parts_of_map (limit + 1) (lines_of octets) p.front (cut_lines limit (held ++ rest)) p.lines in (
       p.text,
+      last.notes,
       p.written,
       record {
         front = parts.0;
         back = parts.1;
         lines = parts.2;
-        last = net;
+        last = last.net;
         answers = p.text;
-        are_answers = StepAnswers-uncut limit 1 parts.0 (start_of plan) net p.text (rw parts.3 at p.answers);
+        are_answers = LineAnswers-uncut mode limit 1 parts.0 (noted (start_of plan) notes) last p.text
+            (rw parts.3 at p.answers);
         steps = at parts.1 parts.4;
         more = [];
         follows = no_report refl;
@@ -168,34 +257,40 @@ steps_left fault limit n plan octets held rest before now net p at =
     )
 
 -- before any line, the output of the first lines is written whole
-pub steps_begun : (fault : CommandFault) (limit n : ℕ) (plan : Plan) (input left before now : Option (List ℕ))
-    (held : List ℕ) (net : NetView)
-    → StepsProgress limit n plan input held left before now net → fault ≢ Steps
-    → PrintsStepsBeginning fault limit plan input before now
-steps_begun fault limit n plan None left before now held net p ne = tt
-steps_begun fault limit n plan (Some octets) None before now held net p ne = absurd p
-steps_begun fault limit n plan (Some octets) (Some rest) before now held net p ne =
-    steps_left fault limit n plan octets held rest before now net p (λ back same e. absurd (ne e))
+pub steps_begun : (fault : CommandFault) (mode : Mode) (limit n : ℕ) (plan : Plan) (notes : Notes)
+    (input left before now : Option (List ℕ)) (held : List ℕ) (last : TestView)
+    → StepsProgress mode limit n plan input held left notes before now last → fault ≢ Steps
+    → PrintsLinesBeginning fault mode limit plan input notes before now
+steps_begun fault mode limit n plan notes None left before now held last p ne = tt
+steps_begun fault mode limit n plan notes (Some octets) None before now held last p ne = absurd p
+steps_begun fault mode limit n plan notes (Some octets) (Some rest) before now held last p ne =
+    steps_left fault mode limit n plan notes octets held rest before now last p (λ back same e. absurd (ne e))
 
 -- the same if the next line was read
-pub steps_stopped : (fault : CommandFault) (limit n : ℕ) (plan : Plan) (input mid left before now : Option (List ℕ))
-    (held held' line : List ℕ) (net : NetView)
-    → StepsProgress limit n plan input held mid before now net → GivesLine limit mid held left held' line
-    → (fault ≡ Steps → IsAtLimit limit net (line ∷ []))
-    → PrintsStepsBeginning fault limit plan input before now
-steps_stopped fault limit n plan None mid left before now held held' line net p gives at = tt
-steps_stopped fault limit n plan (Some octets) None left before now held held' line net p gives at = absurd p
-steps_stopped fault limit n plan (Some octets) (Some rest) None before now held held' line net p gives at = absurd gives
-steps_stopped fault limit n plan (Some octets) (Some rest) (Some rest') before now held held' line net p gives at =
-    steps_left fault limit n plan octets held rest before now net p
-    (λ back same e. IsAtLimit-uncut limit net back line (cut_lines limit (held' ++ rest')) (sym gives ∙ same) (at e))
+pub steps_stopped : (fault : CommandFault) (mode : Mode) (limit n : ℕ) (plan : Plan) (notes : Notes)
+    (input mid left before now : Option (List ℕ)) (held held' line : List ℕ) (last : TestView)
+    → StepsProgress mode limit n plan input held mid notes before now last → GivesLine limit mid held left held' line
+    → (fault ≡ Steps → IsAtLimit limit last.net (line ∷ []))
+    → PrintsLinesBeginning fault mode limit plan input notes before now
+steps_stopped fault mode limit n plan notes None mid left before now held held' line last p gives at = tt
+steps_stopped fault mode limit n plan notes (Some octets) None left before now held held' line last p gives at =
+    absurd p
+steps_stopped fault mode limit n plan notes (Some octets) (Some rest) None before now held held' line last p gives at =
+    absurd gives
+steps_stopped fault mode limit n plan notes (Some octets) (Some rest) (Some rest') before now held held' line last p
+    gives at =
+    steps_left fault mode limit n plan notes octets held rest before now last p
+    (λ back same e. IsAtLimit-uncut limit last.net back line (cut_lines limit (held' ++ rest')) (sym gives ∙ same)
+    (at e))
 
 -- before anything is read, nothing is written
-pub steps_unread : (fault : CommandFault) (limit : ℕ) (plan : Plan) (input before : Option (List ℕ)) → fault ≢ Steps
-    → PrintsStepsBeginning fault limit plan input before before
-steps_unread fault limit plan None before ne = tt
-steps_unread fault limit plan (Some octets) before ne = (
+pub steps_unread : (fault : CommandFault) (mode : Mode) (limit : ℕ) (plan : Plan) (notes : Notes)
+    (input before : Option (List ℕ)) → fault ≢ Steps
+    → PrintsLinesBeginning fault mode limit plan input notes before before
+steps_unread fault mode limit plan notes None before ne = tt
+steps_unread fault mode limit plan notes (Some octets) before ne = (
   [],
+  notes,
   Appends-nil before,
   record {
     front = [];
@@ -213,17 +308,17 @@ steps_unread fault limit plan (Some octets) before ne = (
 )
 
 -- the output of all lines, and the report
-pub reported : (limit : ℕ) (plan : Plan) (input before now after : Option (List ℕ)) (net : NetView) (rec : Record)
-    (report : List ℕ)
-    → HaveAnswered limit plan input before now net → rec ≡ net.rec → IsLawfulRecord spanning_tree plan rec
-    → Appends now after report → IsReport plan rec report
-    → PrintsSteps limit plan input before after
-reported limit plan None before now after net rec report a e lawful w r = tt
-reported limit plan (Some octets) before now after net rec report (text, written, answers) e lawful w r = (
+pub reported : (mode : Mode) (limit : ℕ) (plan : Plan) (notes : Notes) (input before now after : Option (List ℕ))
+    (last : TestView) (rec : Record) (report : List ℕ)
+    → HaveAnswered mode limit plan input notes before now last → rec ≡ last.net.rec
+    → IsLawfulRecord spanning_tree plan rec → Appends now after report → IsReport plan rec report
+    → PrintsLines mode limit plan input notes last.notes before after
+reported mode limit plan notes None before now after last rec report a e lawful w r = tt
+reported mode limit plan notes (Some octets) before now after last rec report (text, written, answers) e lawful w r = (
   text ++ report,
   Appends-trans before now after text report written w,
   record {
-    last = net;
+    last = last.net;
     answers = text;
     are_answers = answers;
     lawful = subst (λ x. IsLawfulRecord spanning_tree plan x) e lawful;
@@ -234,19 +329,20 @@ reported limit plan (Some octets) before now after net rec report (text, written
 )
 
 -- the output of all lines, without the report
-pub unreported : (fault : CommandFault) (limit : ℕ) (plan : Plan) (input before now after : Option (List ℕ))
-    (net : NetView)
-    → HaveAnswered limit plan input before now net → Keeps now after → fault ≢ Steps
-    → PrintsStepsBeginning fault limit plan input before after
-unreported fault limit plan None before now after net a k ne = tt
-unreported fault limit plan (Some octets) before now after net (text, written, answers) k ne = (
+pub unreported : (fault : CommandFault) (mode : Mode) (limit : ℕ) (plan : Plan) (notes : Notes)
+    (input before now after : Option (List ℕ)) (last : TestView)
+    → HaveAnswered mode limit plan input notes before now last → Keeps now after → fault ≢ Steps
+    → PrintsLinesBeginning fault mode limit plan input notes before after
+unreported fault mode limit plan notes None before now after last a k ne = tt
+unreported fault mode limit plan notes (Some octets) before now after last (text, written, answers) k ne = (
   text,
+  last.notes,
   Appends-kept before now after text written k,
   record {
     front = lines_of octets;
     back = [];
     lines = sym (append-nil (lines_of octets));
-    last = net;
+    last = last.net;
     answers = text;
     are_answers = answers;
     steps = λ e. absurd (ne e);
@@ -258,21 +354,24 @@ unreported fault limit plan (Some octets) before now after net (text, written, a
 )
 
 -- the output of all lines, and the report without its last line, if an allocation for that line failed
-pub part_reported : (fault : CommandFault) (limit : ℕ) (plan : Plan) (input before now after : Option (List ℕ))
-    (net : NetView) (rec : Record) (more : List ℕ)
-    → HaveAnswered limit plan input before now net → rec ≡ net.rec → IsLawfulRecord spanning_tree plan rec
+pub part_reported : (fault : CommandFault) (mode : Mode) (limit : ℕ) (plan : Plan) (notes : Notes)
+    (input before now after : Option (List ℕ)) (last : TestView) (rec : Record) (more : List ℕ)
+    → HaveAnswered mode limit plan input notes before now last → rec ≡ last.net.rec
+    → IsLawfulRecord spanning_tree plan rec
     → fault ≡ Memory → plan.spanning ≡ Rstp
-    → Appends now after more → IsRecordText plan rec more → PrintsStepsBeginning fault limit plan input before after
-part_reported fault limit plan None before now after net rec more a e lawful m rstp w told = tt
-part_reported fault limit plan (Some octets) before now after net rec more (text, written, answers) e lawful m rstp w
-    told = (
+    → Appends now after more → IsRecordText plan rec more
+    → PrintsLinesBeginning fault mode limit plan input notes before after
+part_reported fault mode limit plan notes None before now after last rec more a e lawful m rstp w told = tt
+part_reported fault mode limit plan notes (Some octets) before now after last rec more (text, written, answers) e lawful
+    m rstp w told = (
       text ++ more,
+      last.notes,
       Appends-trans before now after text more written w,
       record {
         front = lines_of octets;
         back = [];
         lines = sym (append-nil (lines_of octets));
-        last = net;
+        last = last.net;
         answers = text;
         are_answers = answers;
         steps = λ s. let clash : Memory ≡ Steps = sym m ∙ s in cc;
@@ -282,6 +381,13 @@ part_reported fault limit plan (Some octets) before now after net rec more (text
         text_is = refl;
       },
     )
+
+-- before anything is read, a script that is no test has written nothing
+pub plain_unread : (fault : CommandFault) (limit : ℕ) (plan : Plan) (input before : Option (List ℕ)) → fault ≢ Steps
+    → PrintsStepsBeginning fault limit plan input before before
+plain_unread fault limit plan input before ne =
+    plain_begins fault limit plan input no_notes before before
+    (steps_unread fault Script limit plan no_notes input before ne)
 
 -- two facts of an error give a third
 pub on_err : {A E : Type 0} {P Q S : E → Type 0} (r : Result A E) → ((e : E) → P e → Q e → S e) → IfErr r P

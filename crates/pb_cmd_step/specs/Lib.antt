@@ -1,2 +1,4 @@
 pub mod Steps
+pub mod Tests
+pub mod Modes
 pub mod Scripts

@@ -97,26 +97,6 @@ pub record IsStepsBeginning (fault : CommandFault) (limit : ℕ) (plan : Plan) (
 abbrev pub PrintsSteps : ℕ → Plan → Option (List ℕ) → Option (List ℕ) → Option (List ℕ) → Type 0
 PrintsSteps limit plan input before after = IfSome input (λ octets. (text : List ℕ) × Appends before after text × IsStepsText limit plan octets text)
 
--- the output of all lines was written, and this is the network then
-abbrev pub HaveAnswered : ℕ → Plan → Option (List ℕ) → Option (List ℕ) → Option (List ℕ) → NetView → Type 0
-HaveAnswered limit plan input before after last =
-    IfSome input (λ octets. (text : List ℕ) × Appends before after text × StepAnswers limit 1 (lines_of octets) (start_of plan) last text)
-
 -- the output of the first lines was written, each line's output whole, and what may follow it
 abbrev pub PrintsStepsBeginning : CommandFault → ℕ → Plan → Option (List ℕ) → Option (List ℕ) → Option (List ℕ) → Type 0
 PrintsStepsBeginning fault limit plan input before after = IfSome input (λ octets. (text : List ℕ) × Appends before after text × IsStepsBeginning fault limit plan octets text)
-
--- before line n: the output of the earlier lines is written, and the remaining lines are those of the held and the
--- unread octets
-pub record HasCome (limit n : ℕ) (plan : Plan) (octets held rest : List ℕ) (before after : Option (List ℕ)) (net : NetView) : Type 0 where
-  pub front : List (List ℕ)
-  pub lines : cut_lines limit octets ≡ front ++ cut_lines limit (held ++ rest)
-  pub number : n ≡ suc (length front)
-  pub text : List ℕ
-  pub written : Appends before after text
-  pub answers : StepAnswers limit 1 front (start_of plan) net text
-
-abbrev pub StepsProgress : ℕ → ℕ → Plan → Option (List ℕ) → List ℕ → Option (List ℕ) → Option (List ℕ) → Option (List ℕ) → NetView → Type 0
-StepsProgress limit n plan None held left before after net = ⊤
-StepsProgress limit n plan (Some octets) held None before after net = ⊥
-StepsProgress limit n plan (Some octets) held (Some rest) before after net = HasCome limit n plan octets held rest before after net

@@ -4,10 +4,11 @@ ghost use Rattle.std.specs.Prelude.{◌≡◌, ◌≢◌, ◌⊎◌, ◌++◌, L
 ghost use Rattle.std.specs.Io.KnownBytes.{Appends};
 ghost use Rattle.pb_lan.specs.Plans.{IsSound};
 ghost use Rattle.pb_report.specs.Refusals.{IsRefusalText, refusal_line};
-ghost use Rattle.pb_cmd_step.specs.Scripts.{PrintsScript, PrintsScriptBeginning};
+ghost use Rattle.pb_cmd_step.specs.Scripts.{PrintsScript, PrintsScriptBeginning, PrintsTest, PrintsTestBeginning};
 ghost use Rattle.pb_service.specs.declared.fault.PlanFault.{PlanFault};
 
-use crate::steps::run_steps;
+use crate::steps::{run_steps, test_steps};
+use crate::testing::TestNotes;
 use pb_messages::CommandFault;
 use pb_report::write_refusal;
 use pb_service::read_plan;
@@ -48,6 +49,39 @@ pub fn run_script<R: Read, W: Write>(
         }
         Err(fault) => {
             write_refusal(alloc, &fault, writer)?;
+            Ok(REFUSED)
+        }
+    }
+}
+
+/// Drives the network of a plan file by the lines of a script that is a test, as [`test_steps`] does. Returns the exit
+/// status: 0, or 4 if the notes have a finding. If the file is no plan, it writes the rule that the file breaks, as
+/// `check` does, and returns 1. Earlier notes are dropped.
+///
+/// # Errors
+///
+/// The faults of [`run_script`], with what they say about the written octets. The notes may have a part of the last
+/// finding after the fault `Memory`.
+pub fn run_test<R: Read, W: Write>(
+    alloc: Global,
+    file: &[u8],
+    reader: &mut R,
+    writer: &mut W,
+    notes: &mut TestNotes,
+) -> Result<u8, CommandFault>
+    ensures ok { IfOk result (λ status. PrintsTest file.now status (R.remaining reader.old) notes.new.findings
+        (W.contents writer.old) (W.contents writer.new)) }
+    ensures part { IfErr result (λ e. e ≢ CommandFault.Write →
+        PrintsTestBeginning e file.now (R.remaining reader.old) (W.contents writer.old) (W.contents writer.new)) }
+{
+    *notes = TestNotes::new(alloc);
+    match read_plan(alloc, file) {
+        Ok((plan, _ports)) => {
+            test_steps(alloc, plan, reader, writer, notes)?;
+            Ok(notes.status())
+        }
+        Err(refusal) => {
+            write_refusal(alloc, &refusal, writer)?;
             Ok(REFUSED)
         }
     }

@@ -10,10 +10,13 @@ ghost use Rattle.pb_relay.specs.Protocol.{spanning_tree};
 ghost use Rattle.pb_lines.specs.Reader.{held, limit_of};
 ghost use Rattle.pb_messages.specs.BadLines.{longest_line};
 ghost use Rattle.pb_relay.specs.Settled.{TellsSettled};
+ghost use Rattle.pb_cmd_step.specs.Modes.{HaveAnswered, PrintsLines, PrintsLinesBeginning, noted};
 ghost use Rattle.pb_cmd_step.specs.Steps.{newest_at, HasGrown, StepAnswer, IsReport, IsAtLimit, PrintsSteps};
-ghost use Rattle.pb_cmd_step.specs.Steps.{HaveAnswered, PrintsStepsBeginning, start_of};
+ghost use Rattle.pb_cmd_step.specs.Steps.{PrintsStepsBeginning, start_of};
 ghost use Rattle.pb_report.specs.RecordTexts.{settled_line, IsRecordText};
 
+use crate::lines::answer_line;
+use crate::testing::{Mode, TestNotes};
 use pb_frame::Memory;
 use pb_history::Tallies;
 use pb_lan::{Place, Plan, Record, Spanning, Step};
@@ -43,7 +46,7 @@ fn newest(net: &Net, place: Place) -> &Step
 /// # Errors
 ///
 /// `Steps` if the event's place has taken as many steps as the plan allows, `Memory` if an allocation failed.
-fn answer_step(
+pub(crate) fn answer_step(
     alloc: Global,
     limit: usize,
     number: u64,
@@ -85,13 +88,15 @@ fn answer_step(
 ///
 /// # Errors
 ///
-/// `Read` if a read failed, `Write` if a write failed, else the faults of [`answer_step`].
+/// `Read` if a read failed, `Write` if a write failed, else the faults of [`answer_line`].
 fn answer_steps<R: Read, W: Write>(
     alloc: Global,
+    mode: Mode,
     limit: usize,
     names: &Names<'_>,
     lines: &mut LineReader,
     net: &mut Net,
+    notes: &mut TestNotes,
     reader: &mut R,
     writer: &mut W,
 ) -> Result<(), CommandFault>
@@ -101,11 +106,11 @@ fn answer_steps<R: Read, W: Write>(
     requires sound { IsSound names.now.plan.now }
     requires fresh { net.old ≡ start_of names.now.plan.now }
     ensures plan { OnOk result (net.new.plan ≡ names.now.plan.now) }
-    ensures ok { OnOk result (HaveAnswered limit names.now.plan.now (R.remaining reader.old) (W.contents writer.old)
-        (W.contents writer.new) net.new) }
+    ensures ok { OnOk result (HaveAnswered mode limit names.now.plan.now (R.remaining reader.old) notes.old
+        (W.contents writer.old) (W.contents writer.new) (noted net.new notes.new)) }
     ensures part { IfErr result (λ e. e ≢ CommandFault.Write →
-        PrintsStepsBeginning e limit names.now.plan.now (R.remaining reader.old) (W.contents writer.old)
-        (W.contents writer.new)) }
+        PrintsLinesBeginning e mode limit names.now.plan.now (R.remaining reader.old) notes.old
+        (W.contents writer.old) (W.contents writer.new)) }
 {
     let mut out = String::new(alloc);
     for number in 1..u64::MAX {
@@ -115,7 +120,9 @@ fn answer_steps<R: Read, W: Write>(
         }
         out.clear();
         let line = lines.line();
-        answer_step(alloc, limit, number, line, names, net, &mut out)?;
+        answer_line(
+            alloc, mode, limit, number, line, names, net, notes, &mut out,
+        )?;
         if writer.write_all(out.as_bytes()).is_err() {
             return Err(CommandFault::Write);
         }
@@ -221,24 +228,28 @@ fn look_settled(alloc: Global, plan: &Plan, net: &Net) -> Result<Option<bool>, M
 /// The faults of [`run_steps`].
 fn drive<R: Read, W: Write>(
     alloc: Global,
+    mode: Mode,
     limit: usize,
     plan: &Plan,
     mut net: Net,
+    notes: &mut TestNotes,
     reader: &mut R,
     writer: &mut W,
 ) -> Result<(), CommandFault>
     requires limit { limit < 2 ^ 32 }
     requires sound { IsSound plan.now }
     requires fresh { net ≡ start_of plan.now }
-    ensures ok { OnOk result (PrintsSteps limit plan.now (R.remaining reader.old) (W.contents writer.old)
-        (W.contents writer.new)) }
+    ensures ok { OnOk result (PrintsLines mode limit plan.now (R.remaining reader.old) notes.old notes.new
+        (W.contents writer.old) (W.contents writer.new)) }
     ensures part { IfErr result (λ e. e ≢ CommandFault.Write →
-        PrintsStepsBeginning e limit plan.now (R.remaining reader.old) (W.contents writer.old)
-        (W.contents writer.new)) }
+        PrintsLinesBeginning e mode limit plan.now (R.remaining reader.old) notes.old
+        (W.contents writer.old) (W.contents writer.new)) }
 {
     let names = Names::new(alloc, plan)?;
     let mut lines = LineReader::new(alloc, limit)?;
-    answer_steps(alloc, limit, &names, &mut lines, &mut net, reader, writer)?;
+    answer_steps(
+        alloc, mode, limit, &names, &mut lines, &mut net, notes, reader, writer,
+    )?;
     let settled = look_settled(alloc, plan, &net);
     let rec = net.finish();
     match settled {
@@ -289,5 +300,51 @@ pub fn run_steps<R: Read, W: Write>(
         (W.contents writer.new)) }
 {
     let net = Net::new(alloc, plan.clone()?)?;
-    drive(alloc, MAX_LINE, &plan, net, reader, writer)
+    let mut notes = TestNotes::new(alloc);
+    drive(
+        alloc,
+        Mode::Script,
+        MAX_LINE,
+        &plan,
+        net,
+        &mut notes,
+        reader,
+        writer,
+    )
+}
+
+/// Drives the network of a sound plan by a step script that is a test, as [`run_steps`] does, with two differences. An
+/// empty line and one that begins with `#` is a comment, and has no output. A line `expect ANSWER` compares ANSWER with
+/// the answer to the script line before it, and has no output. The notes receive the findings: a difference, and the
+/// answers `no such` and `line N: bad`.
+///
+/// # Errors
+///
+/// The faults of [`run_steps`], with what they say about the written octets. The notes may have a part of the last
+/// finding after the fault `Memory`.
+pub fn test_steps<R: Read, W: Write>(
+    alloc: Global,
+    plan: Plan,
+    reader: &mut R,
+    writer: &mut W,
+    notes: &mut TestNotes,
+) -> Result<(), CommandFault>
+    requires sound { IsSound plan }
+    ensures ok { OnOk result (PrintsLines Mode.Test longest_line plan (R.remaining reader.old) notes.old notes.new
+        (W.contents writer.old) (W.contents writer.new)) }
+    ensures part { IfErr result (λ e. e ≢ CommandFault.Write →
+        PrintsLinesBeginning e Mode.Test longest_line plan (R.remaining reader.old) notes.old
+        (W.contents writer.old) (W.contents writer.new)) }
+{
+    let net = Net::new(alloc, plan.clone()?)?;
+    drive(
+        alloc,
+        Mode::Test,
+        MAX_LINE,
+        &plan,
+        net,
+        notes,
+        reader,
+        writer,
+    )
 }

@@ -7,8 +7,8 @@ use Rattle.pb_names.specs.Names.{bridge_name, link_name, port_name, service_name
 use Rattle.pb_converge.specs.declared.rest.Rest.{Rest}
 use Rattle.pb_converge.specs.declared.rest.Rest.TheVariants.{Given, Settled, Unsettled}
 use Rattle.pb_cmd_survive.specs.Failures.{is_link, is_bridge, is_pair}
-use Rattle.pb_cmd_survive.specs.Verdicts.{is_settled, are_forests, is_split, is_healthy_service, is_healthy, is_lost, parts_view, parts, is_quiet}
-use Rattle.pb_cmd_survive.specs.Judgements.{harms, is_tolerable, is_excused, survives}
+use Rattle.pb_cmd_survive.specs.Verdicts.{is_settled, are_forests, is_split, is_healthy_service, is_healthy, is_lost, parts_view, parts, is_left_out}
+use Rattle.pb_cmd_survive.specs.Judgements.{harms, is_excused, survives}
 use Rattle.pb_cmd_survive.specs.AcceptedTexts.{stale_text}
 use Rattle.pb_accept.specs.declared.acceptance.Acceptance.{Acceptance}
 use Rattle.pb_cmd_survive.specs.declared.criteria.Criteria.{Criteria}
@@ -146,12 +146,12 @@ health_text plan base =
 
 -- the word before a failure that is accepted
 abbrev pub mark_text : Criteria → List Acceptance → Impact → Impact → List ℕ
-mark_text criteria acceptances base o = if is_tolerable criteria acceptances base o then codes "accepted " else []
+mark_text criteria acceptances base o = if is_excused criteria acceptances base o then codes "accepted " else []
 
--- the lines of a failure, if it does harm
+-- the lines of a failure, unless the report leaves it out
 abbrev pub impact_text : Plan → Criteria → List Acceptance → Impact → Impact → List ℕ
 impact_text plan criteria acceptances base o =
-    if is_quiet criteria base o then []
+    if is_left_out criteria base o then []
     else mark_text criteria acceptances base o ++ head_line plan o ++ flat_map (view_text plan criteria) (zip base.views o.views)
 
 -- the number of analysed failures of a kind, if there are any

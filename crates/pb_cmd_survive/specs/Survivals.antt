@@ -34,9 +34,9 @@ said_text plan asked criteria base impacts =
     if asked.as_tables then accept_tables plan criteria base impacts
     else report_text plan criteria asked.accepted.now base impacts
 
--- what counts as disconnected, by the options
+-- what counts as disconnected and which failures are reported, by the options
 abbrev pub criteria_of : Plan → Asked → Criteria
-criteria_of plan asked = record { from = from_of plan asked.scope; own = asked.own }
+criteria_of plan asked = record { from = from_of plan asked.scope; own = asked.own; all = asked.all }
 
 -- the report on the plan's network with nothing down, and under each requested failure
 pub record IsReport (plan : Plan) (asked : Asked) (status : ℕ) (text : List ℕ) : Type 0 where

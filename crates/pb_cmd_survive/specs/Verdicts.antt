@@ -63,3 +63,7 @@ parts criteria base o = list_any (parts_view criteria) (zip base.views o.views)
 -- the failure is harmless: the bridges converge, no service has a loop, and none is disconnected
 abbrev pub is_quiet : Criteria → Impact → Impact → Bool
 is_quiet criteria base o = is_settled o.rest && are_forests o.views && not (parts criteria base o)
+
+-- the report leaves the failure out: it is harmless, and not all failures are asked for
+abbrev pub is_left_out : Criteria → Impact → Impact → Bool
+is_left_out criteria base o = not criteria.all && is_quiet criteria base o

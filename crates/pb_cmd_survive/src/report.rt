@@ -13,12 +13,12 @@ use crate::criteria::Criteria;
 use crate::failure::Failure;
 use crate::health::put_health;
 use crate::impact::Impact;
-use crate::judgement::{is_excused, is_tolerable, survives};
+use crate::judgement::{is_excused, survives};
 use crate::parting::{is_lost, parts_view};
 use crate::sites::Site;
 use crate::stale::put_stale;
 use crate::totals::{put_last, put_totals};
-use crate::verdict::{are_forests, is_quiet};
+use crate::verdict::{are_forests, is_left_out};
 use crate::view::View;
 use pb_accept::Acceptance;
 use pb_converge::Rest;
@@ -276,7 +276,7 @@ fn put_mark(
     ensures { OnOk result (string_bytes out.new ≡ string_bytes out.old
         ++ mark_text criteria acceptances.now base.now impact.now) }
 {
-    if is_tolerable(criteria, acceptances, base, impact) {
+    if is_excused(criteria, acceptances, base, impact) {
         out.push_str("accepted ")?;
     }
     Ok(())
@@ -294,7 +294,7 @@ fn put_impact(
     ensures { OnOk result (string_bytes out.new ≡ string_bytes out.old
         ++ impact_text plan.now criteria acceptances.now base.now impact.now) }
 {
-    if is_quiet(criteria, base, impact) {
+    if is_left_out(criteria, base, impact) {
         return Ok(());
     }
     put_mark(out, criteria, acceptances, base, impact)?;
@@ -366,7 +366,8 @@ fn put_ending(
 /// First come the lines of the network with nothing down: whether the bridges converged and after how many ticks of
 /// each, whether the active links are a forest for each service, the groups of each service's customer ports, and
 /// whether it is healthy: the bridges converge, and each service has two ports or more, all connected, and no loop.
-/// Then each failure that does harm has the same lines, with the services that it disconnects. A failure of which
+/// Then each failure that does harm, or each one if `criteria.all` is set, has the same lines, with the services that
+/// it disconnects. A failure of which
 /// `acceptances` accept each disconnection has the word `accepted` before them. Last come the kinds of failures, the
 /// most ticks to convergence, how many failures do which harm, and the acceptances that are stale or were not tried.
 /// The last line is the verdict. It says that the network survives only if it is healthy and no failure disconnects a

@@ -53,6 +53,8 @@ pub struct Asked<'a> {
     pub scope: Scope<'a>,
     /// Whether the customer ports of a failed bridge count as disconnected too.
     pub own: bool,
+    /// Whether harmless failures are reported too.
+    pub all: bool,
     /// The most ticks of each bridge until convergence.
     pub ticks: u32,
     /// The disconnections that are accepted.
@@ -70,7 +72,7 @@ fn status_of(passed: bool) -> u8
     if passed { WHOLE } else { PARTED }
 }
 
-/// Returns what counts as disconnected, by the options.
+/// Returns what counts as disconnected and which failures are reported, by the options.
 fn criteria_of(plan: &Plan, asked: &Asked<'_>) -> Criteria
     requires { IsSound plan.now }
     ensures { result ≡ criteria_of plan.now asked.now }
@@ -78,6 +80,7 @@ fn criteria_of(plan: &Plan, asked: &Asked<'_>) -> Criteria
     Criteria {
         from: from_of(plan, &asked.scope),
         own: asked.own,
+        all: asked.all,
     }
 }
 

@@ -4,7 +4,7 @@ ghost use Rattle.std.specs.Prelude.{◌≡◌, ◌==◌, ◌&&◌, not, length, 
 ghost use Rattle.std.specs.List.{list_any, list_all};
 ghost use Rattle.pb_cmd_survive.specs.Verdicts.{is_settled, are_forests, is_apart, is_split, is_healthy_service};
 ghost use Rattle.pb_cmd_survive.specs.Verdicts.{is_healthy};
-ghost use Rattle.pb_cmd_survive.specs.Verdicts.{is_quiet};
+ghost use Rattle.pb_cmd_survive.specs.Verdicts.{is_quiet, is_left_out};
 
 use crate::criteria::Criteria;
 use crate::impact::Impact;
@@ -67,10 +67,17 @@ pub(crate) fn is_healthy(base: &Impact) -> bool
 }
 
 /// Checks whether a failure is harmless: the bridges converge, no service has a loop, and none is disconnected.
-pub(crate) fn is_quiet(criteria: Criteria, base: &Impact, impact: &Impact) -> bool
+fn is_quiet(criteria: Criteria, base: &Impact, impact: &Impact) -> bool
     ensures { result ≡ is_quiet criteria base.now impact.now }
 {
     is_settled(impact.rest)
         && are_forests(impact.views.as_slice())
         && !parts(criteria, base, impact)
+}
+
+/// Checks whether the report leaves a failure out: it is harmless, and not all failures are asked for.
+pub(crate) fn is_left_out(criteria: Criteria, base: &Impact, impact: &Impact) -> bool
+    ensures { result ≡ is_left_out criteria base.now impact.now }
+{
+    !criteria.all && is_quiet(criteria, base, impact)
 }

@@ -3,11 +3,12 @@ use Rattle.std.proofs.Common.{ℕ, ◌≤◌, List, [], ◌∷◌, ◌++◌, map
 use Rattle.std.proofs.Common.{unwrap_or, Vec, Global, Bor, Ordering, Less, Equal, Greater, nat_cmp, arith}
 use Rattle.std.specs.Cmp.Lexicographic.{slice_cmp}
 use Rattle.std.specs.Ordering.{match_ordering}
-use Rattle.serde_json.specs.Data.{Data, null, string, number, unsigned, Members, no_members, member, put, depth}
+use Rattle.serde_json.specs.Data.{Data, null, object, string, number, unsigned, Members, no_members, member, put, depth}
 use Rattle.serde_json.specs.Data.{items_depth, members_depth}
 use Rattle.serde_json.specs.View.{items_of}
 use Rattle.pb_export.specs.Documents.{said_data, list_data, words_data, field_data, put_some, with_fields, is_at}
-use Rattle.pb_export.specs.Documents.{is_in, row_data, first_data, inner_items, with_inner, item_data, objects_of}
+use Rattle.pb_export.specs.Documents.{is_in, is_bare, row_data, first_data, inner_items, with_inner, item_data}
+use Rattle.pb_export.specs.Documents.{objects_of}
 use Rattle.pb_export.specs.Documents.{values_of, some_list, first_item, list_entry, with_lists, with_top}
 use Rattle.pb_export.specs.Documents.{document_of}
 use Rattle.pb_export.specs.declared.templates.Said.{Said}
@@ -123,9 +124,6 @@ members_depth-fields (f ∷ fields) ms m =
     (members_depth-some 2 f.slot.key.now (field_data f.field) ms (shallow-field f.field) m)
 
 -- rows and lists
-depth-row : (row : Row) → depth (row_data row) ≤ 3
-depth-row row = let inside = members_depth-fields row.fields.items no_members (omega arith) in omega arith
-
 depth-or : (o : Option Data) → IsShallow 2 o → depth (unwrap_or o null) ≤ 2
 unfolding IsShallow
 depth-or None h = omega arith
@@ -134,6 +132,17 @@ depth-or (Some d) h = h
 depth-first : (fields : List Filled) → depth (first_data fields) ≤ 2
 depth-first [] = omega arith
 depth-first (f ∷ fields) = depth-or (field_data f.field) (shallow-field f.field)
+
+depth-if : (n : ℕ) (b : Bool) (d e : Data) → depth d ≤ n → depth e ≤ n → depth (if b then d else e) ≤ n
+depth-if n true d e x y = x
+depth-if n false d e x y = y
+
+depth-row : (row : Row) → depth (row_data row) ≤ 3
+depth-row row =
+    let plain = depth-first row.fields.items in
+    let inside = members_depth-fields row.fields.items no_members (omega arith) in
+    depth-if 3 (is_bare row.fields.items) (first_data row.fields.items)
+    (object (with_fields row.fields.items no_members)) (omega arith) (omega arith)
 
 shallow-inner : (key : List ℕ) (keys : List (Bor (List ℕ))) (rows : List Row) → AreShallow 3 (inner_items key keys rows)
 shallow-inner key keys [] = shallow-none 3

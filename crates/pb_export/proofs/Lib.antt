@@ -2,3 +2,4 @@ pub mod TextLemmas
 pub mod RowLemmas
 pub mod DepthLemmas
 pub mod ValueLemmas
+mod HeadLemmas

@@ -1,5 +1,5 @@
 -- The document of a report's rows.
-use Rattle.std.specs.Prelude.{Vec, ◌≡◌, ℕ, Bool, true, false, List, [], ◌∷◌, ◌++◌, Option, Some, None, map, unwrap_or, if◌then◌else◌}
+use Rattle.std.specs.Prelude.{Vec, ◌≡◌, ℕ, Bool, true, false, List, [], ◌∷◌, ◌++◌, Option, Some, None, map, length, ◌==◌, unwrap_or, if◌then◌else◌}
 use Rattle.std.specs.List.{list_any}
 use Rattle.std.specs.Str.{bytes_eq}
 use Rattle.std.specs.declared.alloc.Global.{Global}
@@ -70,14 +70,20 @@ is_at key row = bytes_eq row.template.home.now key
 abbrev pub is_in : List (Bor (List ℕ)) → Row → Bool
 is_in keys row = list_any (λ key. is_at key.now row) keys
 
--- a row as an object
-abbrev pub row_data : Row → Data
-row_data row = object (with_fields row.fields.items no_members)
-
 -- the value of a row's first slot
 abbrev pub first_data : List Filled → Data
 first_data [] = null
 first_data (f ∷ fields) = unwrap_or (field_data f.field) null
+
+-- the first slot has no key
+abbrev pub is_bare : List Filled → Bool
+is_bare [] = false
+is_bare (f ∷ fields) = length f.slot.key.now == 0
+
+-- a row in a list inside an object: an object too, or its first value if that has no key
+abbrev pub row_data : Row → Data
+row_data row =
+    if is_bare row.fields.items then first_data row.fields.items else object (with_fields row.fields.items no_members)
 
 -- a list inside an object, from the rows after the object's own, up to the first that belongs to none of its lists
 abbrev pub inner_items : List ℕ → List (Bor (List ℕ)) → List Row → List Data
@@ -130,9 +136,12 @@ abbrev pub with_top : List Row → Members → Members
 with_top [] members = members
 with_top (row ∷ rows) members = with_top rows (if is_at [] row then with_fields row.fields.items members else members)
 
--- the document of a report
+-- the members of a report's document, and the document
+abbrev pub report_members : Form → List Row → Members
+report_members form rows = with_lists form.lists.now rows (with_top rows no_members)
+
 abbrev pub document_of : Form → List Row → Data
-document_of form rows = object (with_lists form.lists.now rows (with_top rows no_members))
+document_of form rows = object (report_members form rows)
 
 -- the text has each item and member of the document once and in order, and is read back as the document
 pub record IsJson (document : Data) (text : List ℕ) : Type 0 where

@@ -1,3 +1,4 @@
 pub mod Rows
 pub mod Documents
+pub mod Heads
 pub mod Tables

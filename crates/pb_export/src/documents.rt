@@ -2,9 +2,10 @@
 
 ghost use Rattle.std.specs.Prelude.{◌≡◌, [], map, option_map, IfOk, OnOk};
 ghost use Rattle.std.specs.List.{list_any};
-ghost use Rattle.serde_json.specs.Data.{null};
+ghost use Rattle.serde_json.specs.Data.{null, object, no_members};
 ghost use Rattle.serde_json.specs.View.{view, members_view};
-ghost use Rattle.pb_export.specs.Documents.{document_of, first_data, first_item, inner_items, is_at, is_in, item_data};
+ghost use Rattle.pb_export.specs.Documents.{document_of, first_data, first_item, is_bare, inner_items, is_at, is_in};
+ghost use Rattle.pb_export.specs.Documents.{item_data};
 ghost use Rattle.pb_export.specs.Documents.{list_data, list_entry, objects_of, put_some, row_data, some_list};
 ghost use Rattle.pb_export.specs.Documents.{values_of, with_fields, with_inner, with_lists, with_top};
 
@@ -45,13 +46,48 @@ fn put_fields(
     Ok(())
 }
 
-/// Returns a row as an object.
+/// Returns the value of a row's first slot, or null if it has none.
+fn first_value(alloc: Global, fields: &[Filled<'_>]) -> Result<Value, AllocError>
+    ensures { IfOk result (λ v. view v ≡ first_data fields.now) }
+{
+    let [filled, ..] = fields else {
+        return Ok(Value::Null);
+    };
+    match field_value(alloc, &filled.field)? {
+        Some(value) => Ok(value),
+        None => Ok(Value::Null),
+    }
+}
+
+/// Checks whether the first slot has no key.
+fn is_bare(fields: &[Filled<'_>]) -> bool
+    ensures { result ≡ is_bare fields.now }
+{
+    match fields {
+        [filled, ..] => filled.slot.key.is_empty(),
+        [] => false,
+    }
+}
+
+/// Returns the values of slots as an object.
+fn object_value(alloc: Global, fields: &[Filled<'_>]) -> Result<Value, AllocError>
+    ensures { IfOk result (λ v. view v ≡ object (with_fields fields.now no_members)) }
+{
+    let mut map = Map::new(alloc);
+    put_fields(alloc, &mut map, fields)?;
+    Ok(Value::Object(map))
+}
+
+/// Returns a row of a list inside an object: an object too, or its first value if that has no key.
 fn row_value(alloc: Global, row: &Row<'_>) -> Result<Value, AllocError>
     ensures { IfOk result (λ v. view v ≡ row_data row.now) }
 {
-    let mut map = Map::new(alloc);
-    put_fields(alloc, &mut map, row.fields.as_slice())?;
-    Ok(Value::Object(map))
+    let fields = row.fields.as_slice();
+    if is_bare(fields) {
+        first_value(alloc, fields)
+    } else {
+        object_value(alloc, fields)
+    }
 }
 
 /// Checks whether a row belongs to the list of a key.
@@ -153,19 +189,6 @@ fn single_value(
         }
     }
     Ok(None)
-}
-
-/// Returns the value of a row's first slot, or null if it has none.
-fn first_value(alloc: Global, fields: &[Filled<'_>]) -> Result<Value, AllocError>
-    ensures { IfOk result (λ v. view v ≡ first_data fields.now) }
-{
-    let [filled, ..] = fields else {
-        return Ok(Value::Null);
-    };
-    match field_value(alloc, &filled.field)? {
-        Some(value) => Ok(value),
-        None => Ok(Value::Null),
-    }
 }
 
 /// Returns the value of the first slot of each row of a list.

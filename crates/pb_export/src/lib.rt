@@ -6,10 +6,11 @@
 //! `templates.rt`, then `reading.rt`, [`read_report`], [`json_of`] and [`csv_of`].
 #![tactic(auto)]
 
+mod as_json;
 mod documents;
 mod faults;
 mod forms;
-mod json;
+mod heads;
 mod parts;
 mod reading;
 mod rows;
@@ -18,9 +19,10 @@ mod templates;
 mod values;
 mod words;
 
+pub use as_json::json_of;
 pub use faults::FormatFault;
 pub use forms::{CHECK, COUNTS, DIFF, FAILURES, RUN, STEP, SURVIVE, TRACE, TREE};
-pub use json::json_of;
+pub use heads::Head;
 pub use reading::read_report;
 pub use rows::{Field, Filled, Row};
 pub use tables::{Cell, CellRow, Table, csv_of};

@@ -86,7 +86,7 @@ pub struct ListForm {
     /// Its shape.
     pub shape: ListShape,
     /// The lists inside each of its objects: each has the lines of that home that follow the object's own line, up to
-    /// the first line that belongs to none of them.
+    /// the first line that belongs to none of them. A line whose first slot has no key is that value alone.
     pub inner: &'static [&'static str],
 }
 

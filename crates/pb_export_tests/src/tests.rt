@@ -1,9 +1,10 @@
 //! Reports as JSON and as CSV.
 
-ghost use Rattle.std.specs.Prelude.{◌≡◌, ◌++◌, List, Some, map, string_bytes, IfOk};
+ghost use Rattle.std.specs.Prelude.{◌≡◌, ◌++◌, ℕ, List, Some, codes, map, string_bytes, IfOk};
 ghost use Rattle.csv.specs.Writing.{row_text as csv_line};
 ghost use Rattle.serde_json.specs.Read.{read};
 ghost use Rattle.pb_export.specs.Documents.{document_of};
+ghost use Rattle.pb_export.specs.Heads.{head_text};
 ghost use Rattle.pb_export.specs.Rows.{report_text};
 ghost use Rattle.pb_export.specs.Tables.{rows_text, writer};
 ghost use Rattle.pb_export.specs.declared.rows.Row.{Row};
@@ -11,7 +12,7 @@ ghost use Rattle.pb_export.specs.declared.rows.Row.{Row};
 mod reports;
 
 use pb_export::{
-    CHECK, COUNTS, DIFF, FAILURES, Form, FormatFault, RUN, STEP, SURVIVE, TRACE, TREE, Table,
+    CHECK, COUNTS, DIFF, FAILURES, Form, FormatFault, Head, RUN, STEP, SURVIVE, TRACE, TREE, Table,
     csv_of, json_of,
 };
 use reports::{CHANGES, CHECKS, RUNS, STEPS, SURVIVALS, TRACES, TREES};
@@ -28,13 +29,31 @@ pub(crate) struct Said {
     pub(crate) json: &'static str,
 }
 
-/// Calls `json_of` with what a caller may conclude: the JSON is read back as the document of some rows, and these give
-/// back the report.
-fn documented(alloc: Global, form: &Form, text: &str) -> Result<String, FormatFault>
-    ensures { IfOk result (λ json. (rows : List Row) × (text.now ≡ report_text rows)
-        × (read (string_bytes json) ≡ Some (document_of form.now rows))) }
+/// The head of the documents.
+const HEAD: Head<'static> = Head {
+    command: "any",
+    version: "1.2.3",
+    plan: "a \"plan\".toml",
+    old_plan: None,
+};
+
+/// Its text.
+const HEAD_TEXT: &str =
+    "{\n  \"command\": \"any\",\n  \"version\": \"1.2.3\",\n  \"plan\": \"a \\\"plan\\\".toml\",\n";
+
+/// Calls `json_of` with what a caller may conclude: the JSON is the text of the head, and a rest that is read back as
+/// the document of some rows after a bracket, and these rows give back the report.
+fn documented(
+    alloc: Global,
+    form: &Form,
+    head: &Head<'_>,
+    text: &str,
+) -> Result<String, FormatFault>
+    ensures { IfOk result (λ json. (rows : List Row) × (rest : List ℕ) × (text.now ≡ report_text rows)
+        × (string_bytes json ≡ head_text head.now ++ rest)
+        × (read (codes "{\n" ++ rest) ≡ Some (document_of form.now rows))) }
 {
-    json_of(alloc, form, text)
+    json_of(alloc, form, head, text)
 }
 
 /// Calls `csv_of` with what a caller may conclude: a line of titles and the lines of some rows, and these give back the
@@ -46,11 +65,16 @@ fn tabulated(alloc: Global, form: &Form, table: &Table, text: &str) -> Result<Ve
     csv_of(alloc, form, table, text)
 }
 
-/// Checks that the JSON of each report is its document, as serde_json reads both.
+/// Checks that the JSON of each report is the head and its document, as serde_json reads both.
 fn say(rt: &impl Abort, alloc: Global, form: &Form, rows: &[Said]) -> Result<(), Fail> {
     for row in rows {
-        let json = documented(alloc, form, row.text)?;
-        let given = Value::from_str(alloc, json.as_str())?;
+        let json = documented(alloc, form, &HEAD, row.text)?;
+        let Some(rest) = json.as_str().strip_prefix(HEAD_TEXT) else {
+            assert!(rt; false, "{json}");
+            return Ok(());
+        };
+        let report = format!(in alloc; "{{\n{rest}")?;
+        let given = Value::from_str(alloc, report.as_str())?;
         let wanted = Value::from_str(alloc, row.json)?;
         assert!(rt; given == wanted, "{json}");
     }
@@ -98,7 +122,7 @@ fn no_reports_are_refused(rt: HostRuntime) -> Result<(), Fail> {
     let alloc = rt.alloc();
     for text in ["ended drained", "forest yes\nended dr"] {
         assert!(rt;
-            json_of(alloc, &RUN, text).err() == Some(FormatFault::Unread),
+            json_of(alloc, &RUN, &HEAD, text).err() == Some(FormatFault::Unread),
             "{text}"
         );
     }
@@ -106,7 +130,8 @@ fn no_reports_are_refused(rt: HostRuntime) -> Result<(), Fail> {
         templates: &[],
         lists: &[],
     };
-    assert!(rt; json_of(alloc, &bare, "forest yes\n").err() == Some(FormatFault::Unread));
+    assert!(rt; json_of(alloc, &bare, &HEAD, "forest yes\n").err() == Some(FormatFault::Unread));
+    assert!(rt; json_of(alloc, &bare, &HEAD, "").err() == Some(FormatFault::Unread));
     Ok(())
 }
 
@@ -116,17 +141,27 @@ fn json_is_laid_out(rt: HostRuntime) -> Result<(), Fail> {
     let json = json_of(
         rt.alloc(),
         &CHECK,
+        &Head {
+            command: "check",
+            version: "1.2.3",
+            plan: "new.toml",
+            old_plan: Some("old.toml"),
+        },
         "ok bridges 2 links 1 services 1 ports 2\nforest yes\n",
     )?;
     let wanted = r#"{
-  "forest": true,
-  "loops": [],
-  "plan": {
+  "command": "check",
+  "version": "1.2.3",
+  "plan": "new.toml",
+  "old_plan": "old.toml",
+  "counts": {
     "bridges": 2,
     "links": 1,
     "ports": 2,
     "services": 1
   },
+  "forest": true,
+  "loops": [],
   "warnings": []
 }"#;
     assert_eq!(rt; json.as_str(), wanted);

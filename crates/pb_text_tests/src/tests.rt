@@ -5,6 +5,7 @@ mod asked;
 mod diff_arguments;
 mod draw_arguments;
 mod format_arguments;
+mod frame_options;
 mod line_words;
 mod lines;
 mod losses;

@@ -2,6 +2,7 @@
 
 ghost use Rattle.pb_lan.specs.Plans.{IsSound};
 
+use crate::refusal::print_fault;
 use crate::telling::{WRONG_ARGUMENTS, tell_on};
 use crate::{REFUSED, contents};
 use pb_accept::{AcceptFault, Acceptance, Part, read_accept_file, read_acceptances};
@@ -159,7 +160,6 @@ fn refuse_plan<W: Write>(
     fault: AcceptFault,
     out: &mut W,
 ) -> AcceptEnd {
-    let spot = spot_in(rt.alloc(), file, &fault);
     let fault = fault.into_plan_fault();
     if fault == PlanFault::Memory {
         return AcceptEnd::Told(tell_on(out, CommandFault::Memory));
@@ -167,9 +167,7 @@ fn refuse_plan<W: Write>(
     if let Err(fault) = write_refusal(rt.alloc(), &fault, out) {
         return AcceptEnd::Told(tell_on(out, fault));
     }
-    if let Some(spot) = spot {
-        let _ = eprintln!(rt; "error: {path}: invalid plan at {spot}");
-    }
+    print_fault(rt, path, file, &fault);
     AcceptEnd::Told(ExitCode::from(REFUSED))
 }
 

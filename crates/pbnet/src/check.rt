@@ -3,11 +3,12 @@
 ghost use Rattle.std.specs.Prelude.{◌≡◌, ◌<◌, ◌&&◌, nat_lt, if◌then◌else◌};
 ghost use Rattle.std.specs.Process.{exit_status};
 
-use crate::formatted::Output;
+use crate::contents;
+use crate::formatted::{Output, head};
+use crate::refusal::{print_errors, put_error_rows};
 use crate::telling::tell_on;
-use crate::{contents, ended};
 use pb_cli::{CheckOptions, ReportFormat};
-use pb_cmd_check::run_check;
+use pb_cmd_check::{run_check, run_settled_check};
 use pb_export::CHECK;
 use pb_messages::CommandFault;
 use pb_warning_lines::put_warnings;
@@ -30,7 +31,7 @@ pub(crate) fn check<R: Files + Print + Eprint + AllocGlobal>(
     rt: &R,
     options: &CheckOptions,
 ) -> ExitCode {
-    let mut out = Output::new(rt, options.format);
+    let mut out = Output::new(rt, options.format, head("check", options.path.as_str()));
     let status = check_on(rt, options, &mut out);
     out.end(&CHECK, None, status)
 }
@@ -50,33 +51,47 @@ fn check_on<R: Files + Eprint + AllocGlobal, W: Write>(
     let Ok(count) = put_warnings(rt.alloc(), &mut warnings, path, file.as_slice()) else {
         return tell_on(out, CommandFault::Memory);
     };
-    match report_on(rt.alloc(), options.format, file.as_slice(), out) {
+    match report_on(rt.alloc(), options, file.as_slice(), out) {
         Err(fault) => tell_on(out, fault),
         Ok(ACCEPTED) => {
             let _ = eprint!(rt; "{warnings}");
             status_of(options.strict, count)
         }
-        Ok(status) => ended(rt, path, file.as_slice(), status),
+        Ok(status) => {
+            print_errors(rt, path, file.as_slice(), options.all);
+            ExitCode::from(status)
+        }
     }
 }
 
-/// Validates a plan file, given as octets, and writes the report. The warnings are in it if it becomes a document.
-/// Returns the exit status. If an allocation fails, nothing was written.
+/// Validates a plan file, given as octets, and writes the report. The warnings and errors are in it if it becomes a
+/// document. Returns the exit status. If an allocation fails, nothing was written.
 ///
 /// # Errors
 ///
-/// `Memory` if an allocation failed. `Write` if a write failed.
+/// `Memory` if an allocation failed. `Write` if a write failed. `Steps` if the bridges take too many steps until
+/// convergence.
 fn report_on<W: Write>(
     alloc: Global,
-    format: ReportFormat,
+    options: &CheckOptions,
     file: &[u8],
     out: &mut W,
 ) -> Result<u8, CommandFault> {
     let mut warnings = String::new(alloc);
-    if format != ReportFormat::Text {
+    if options.format != ReportFormat::Text {
         put_warnings(alloc, &mut warnings, FILE, file)?;
+        put_error_rows(
+            alloc,
+            &mut warnings,
+            options.path.as_str(),
+            file,
+            options.all,
+        )?;
     }
-    let status = run_check(alloc, file, out)?;
+    let status = match options.settle {
+        Some(ticks) => run_settled_check(alloc, file, ticks, out)?,
+        None => run_check(alloc, file, out)?,
+    };
     if out.write_all(warnings.as_bytes()).is_err() {
         return Err(CommandFault::Write);
     }

@@ -1,14 +1,14 @@
 //! The command `diff`.
 
 use crate::contents;
-use crate::formatted::Output;
+use crate::formatted::{Output, head};
 use crate::looks::Looks;
+use crate::refusal::print_errors;
 use crate::telling::{WRONG_ARGUMENTS, tell_on};
-use pb_cli::DiffOptions;
+use pb_cli::{DiffOptions, ReportFormat};
 use pb_cmd_diff::{Asked, Compared, DiffEnd, run_diff};
 use pb_cmd_survive::Kinds;
-use pb_export::DIFF;
-use pb_plan_spans::refused_at;
+use pb_export::{DIFF, Head};
 use std::fs::Files;
 use std::io::Write;
 use std::process::ExitCode;
@@ -28,18 +28,18 @@ pub(crate) fn tell_diff<R: Files + Threads + Clock + Print + Eprint + AllocGloba
     options: &DiffOptions,
     is_shown: bool,
 ) -> ExitCode {
-    let mut out = Output::new(rt, options.format);
+    let head = Head {
+        old_plan: Some(options.old.as_str()),
+        ..head("diff", options.new.as_str())
+    };
+    let mut out = Output::new(rt, options.format, head);
     let status = tell_diff_on(rt, options, is_shown, &mut out);
     out.end(&DIFF, None, status)
 }
 
-/// Reports on standard error that the file at a path is not a valid plan, and where it breaks a rule, if that is known.
-/// Returns the exit status.
+/// Prints the first error of the plan file at a path on standard error. Returns the exit status.
 fn refused(rt: &(impl Eprint + AllocGlobal), path: &str, file: &[u8]) -> ExitCode {
-    let _ = match refused_at(rt.alloc(), file) {
-        Ok(Some(spot)) => eprintln!(rt; "error: {path}: invalid plan at {spot}"),
-        _ => eprintln!(rt; "error: {path}: invalid plan"),
-    };
+    print_errors(rt, path, file, false);
     ExitCode::from(REFUSED)
 }
 
@@ -60,6 +60,7 @@ fn asked_of(options: &DiffOptions) -> Asked<'_> {
         },
         compared: compared_of(options),
         ticks: options.ticks,
+        all: options.all_failures || options.format == ReportFormat::Json,
     }
 }
 

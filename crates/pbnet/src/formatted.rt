@@ -1,13 +1,28 @@
 //! Reports as text, JSON or CSV.
 
+ghost use Rattle.std.specs.Prelude.{◌≡◌};
+
 use crate::telling::FAULT;
-use pb_cli::ReportFormat;
-use pb_export::{Form, FormatFault, Table, csv_of, json_of};
+use pb_cli::{ReportFormat, VERSION};
+use pb_export::{Form, FormatFault, Head, Table, csv_of, json_of};
 use pb_messages::CommandFault;
 use std::fmt::Display;
 use std::io::Write;
 use std::process::ExitCode;
 use std::{io, str};
+
+/// Returns the members that the document of a command begins with, for the plan file at a path.
+pub(crate) fn head<'a>(command: &'a str, plan: &'a str) -> Head<'a>
+    ensures command { result.command.now ≡ command.now }
+    ensures plan { result.plan.now ≡ plan.now }
+{
+    Head {
+        command,
+        version: VERSION,
+        plan,
+        old_plan: None,
+    }
+}
 
 /// The writer of a report: standard output for text, memory for a document.
 #[derive(Drop)]
@@ -15,16 +30,19 @@ pub(crate) struct Output<'a, R> {
     rt: &'a R,
     /// The form of the report.
     format: ReportFormat,
+    /// The members that a document begins with.
+    head: Head<'a>,
     /// The octets written so far, if the report becomes a document.
     kept: Vec<u8>,
 }
 
 impl<'a, R: Print + AllocGlobal> Output<'a, R> {
     /// Creates the writer of a report in this form.
-    pub(crate) fn new(rt: &'a R, format: ReportFormat) -> Output<'a, R> {
+    pub(crate) fn new(rt: &'a R, format: ReportFormat, head: Head<'a>) -> Output<'a, R> {
         Output {
             rt,
             format,
+            head,
             kept: Vec::new(rt.alloc()),
         }
     }
@@ -41,7 +59,7 @@ impl<'a, R: Print + AllocGlobal> Output<'a, R> {
         if let (ReportFormat::Csv, Some(table)) = (self.format, table) {
             return csv_of(self.rt.alloc(), form, table, text);
         }
-        let mut json = json_of(self.rt.alloc(), form, text)?;
+        let mut json = json_of(self.rt.alloc(), form, &self.head, text)?;
         json.push('\n')?;
         Ok(json.into_bytes())
     }
@@ -59,10 +77,13 @@ impl<'a, R: Print + AllocGlobal> Output<'a, R> {
         }
     }
 
-    /// Prints a document with this fault alone, if the form is JSON. Returns the exit status 3.
+    /// Prints a document with this fault and no plan, if the form is JSON. Returns the exit status 3.
     fn fail(&self, fault: impl Display + Drop) -> ExitCode {
         if self.format == ReportFormat::Json {
-            let _ = println!(self.rt; "{{\"fault\": \"{fault}\"}}");
+            let command = self.head.command;
+            let _ = println!(self.rt;
+                "{{\"command\": \"{command}\", \"version\": \"{VERSION}\", \"plan\": null, \"fault\": \"{fault}\"}}"
+            );
         }
         ExitCode::from(FAULT)
     }

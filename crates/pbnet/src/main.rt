@@ -9,32 +9,36 @@ mod accept;
 mod arguments;
 mod check;
 mod control;
+mod described;
 mod diff;
 mod downs;
 mod draw;
 mod flat;
 mod formatted;
 mod looks;
+mod noted;
 mod progress;
+mod refusal;
+mod step;
 mod survive;
 mod telling;
 mod trace;
 mod trees;
 
 use arguments::{arguments_of, refuse};
-use formatted::Output;
-use pb_cli::{CommandLine, InitOptions, ReportOptions, RunOptions, command_line_of};
+use formatted::{Output, head};
+use noted::Noted;
+use pb_cli::{CommandLine, InitNetwork, InitOptions, RunOptions, command_line_of};
 use pb_cmd_check::run_show;
 use pb_cmd_init::{Topology, write_plan};
 use pb_cmd_run::{RunSettings, Strictness, Traffic, run_network};
-use pb_cmd_step::run_script;
-use pb_export::{COUNTS, RUN, STEP};
+use pb_export::{COUNTS, RUN};
 use pb_messages::CommandFault;
-use pb_plan_spans::refused_at;
 use progress::{RunMonitor, Shown};
+use refusal::print_errors;
 use std::alloc::{AllocError, Global};
 use std::fs::{File, Files};
-use std::io::{BufWriter, ErrorKind, IsTerminal, Read, Write};
+use std::io::{ErrorKind, IsTerminal, Read, Write};
 use std::net::Net;
 use std::process::ExitCode;
 use std::sync::{Arc, Wait};
@@ -47,9 +51,6 @@ use trees::tree;
 /// The exit status if the plan is refused.
 const REFUSED: u8 = 1;
 
-/// The octets of output that are gathered for a write.
-const BUFFER: usize = 65_536;
-
 /// Runs the command of the command line. Returns the exit status.
 fn main(rt: HostRuntime) -> ExitCode {
     let arguments = match arguments_of(&rt) {
@@ -59,7 +60,10 @@ fn main(rt: HostRuntime) -> ExitCode {
     match command_line_of(rt.alloc(), arguments.as_slice()) {
         Ok(Some(CommandLine::Flat(ports))) => flat::flat(&rt, ports),
         Ok(Some(CommandLine::Check(options))) => check::check(&rt, &options),
-        Ok(Some(CommandLine::Step(options))) => step(&rt, &options),
+        Ok(Some(CommandLine::Step(options))) => {
+            let by_line = rt.stdin().is_terminal() || rt.stdout().is_terminal();
+            step::step(&rt, &options, by_line, &mut rt.stderr())
+        }
         Ok(Some(CommandLine::Run(options))) => {
             let mut errors = rt.stderr();
             let shown = shown_on(errors.is_terminal(), options.progress);
@@ -112,54 +116,6 @@ fn contents<R: Files + Eprint + AllocGlobal, W: Write>(
     }
 }
 
-/// Drives the network of a plan file by the script on standard input, and prints the report in the form of the options.
-/// Returns the exit status.
-fn step<R: Files + Input + Print + Eprint + AllocGlobal>(
-    rt: &R,
-    options: &ReportOptions,
-) -> ExitCode {
-    let mut out = Output::new(rt, options.format);
-    let status = step_on(rt, options.path.as_str(), &mut out);
-    out.end(&STEP, Some(&COUNTS), status)
-}
-
-/// Drives the network of a plan file by the script on standard input, and writes the report. Returns the exit status.
-fn step_on<R: Files + Input + Eprint + AllocGlobal, W: Write>(
-    rt: &R,
-    path: &str,
-    out: &mut W,
-) -> ExitCode {
-    let file = match contents(rt, path, out) {
-        Ok(file) => file,
-        Err(status) => return status,
-    };
-    match step_over(rt, file.as_slice(), out) {
-        Err(fault) => tell_on(out, fault),
-        Ok(status) => ended(rt, path, file.as_slice(), status),
-    }
-}
-
-/// Drives the network of a plan file, given as octets, by the script on standard input. Returns the exit status. Output
-/// is gathered before it is written.
-///
-/// # Errors
-///
-/// The fault that ended the command: a failed read, write or allocation, or the limit of steps.
-fn step_over<R: Input + AllocGlobal, W: Write>(
-    rt: &R,
-    file: &[u8],
-    out: &mut W,
-) -> Result<u8, CommandFault> {
-    let Ok(mut writer) = BufWriter::with_capacity(rt.alloc(), BUFFER, out) else {
-        return Err(CommandFault::Memory);
-    };
-    let status = run_script(rt.alloc(), file, &mut rt.reader(), &mut writer);
-    if writer.flush().is_err() && status.is_ok() {
-        return Err(CommandFault::Write);
-    }
-    status
-}
-
 /// Returns how the progress of a run is shown: on one line of a terminal, else on a line each second if `--progress` is
 /// present.
 fn shown_on(is_terminal: bool, is_asked_for: bool) -> Shown {
@@ -204,13 +160,16 @@ fn new_traffic(alloc: Global) -> Result<Arc<Traffic, Global>, AllocError> {
     Ok(Arc::new(alloc, traffic)?)
 }
 
-/// Runs the network of a plan file, and prints the report in the form of the options. Returns the exit status.
+/// Runs the network of a plan file, and prints the report in the form of the options. A JSON document also has what is
+/// reported on `errors`: losses, paths that could not be used, and warnings. Returns the exit status.
 fn run<R, E: Write>(rt: &R, options: &RunOptions, shown: Shown, errors: &mut E) -> ExitCode
 where
     R: Files<File = File> + Net + Threads + Wait + Clock + Print + Eprint + AllocGlobal + Sync,
 {
-    let mut out = Output::new(rt, options.format);
-    let status = run_on(rt, options, shown, &mut out, errors);
+    let mut out = Output::new(rt, options.format, head("run", options.path.as_str()));
+    let mut noted = Noted::new(rt.alloc(), errors);
+    let told = run_on(rt, options, shown, &mut out, &mut noted);
+    let status = noted.end(options.format, &mut out, told);
     out.end(&RUN, Some(&COUNTS), status)
 }
 
@@ -253,13 +212,11 @@ where
     }
 }
 
-/// Returns the exit status of a command over a plan file. If the plan is refused, reports on standard error where the
-/// file breaks the rule, if that is known.
+/// Returns the exit status of a command over a plan file. If the plan is refused, prints its first error on standard
+/// error.
 fn ended(rt: &(impl Eprint + AllocGlobal), path: &str, file: &[u8], status: u8) -> ExitCode {
     if status == REFUSED {
-        if let Ok(Some(spot)) = refused_at(rt.alloc(), file) {
-            let _ = eprintln!(rt; "error: {path}: invalid plan at {spot}");
-        }
+        print_errors(rt, path, file, false);
     }
     ExitCode::from(status)
 }
@@ -274,12 +231,13 @@ fn show(rt: &impl Print) -> ExitCode {
 
 /// Prints a starter plan. Returns the exit status.
 fn init(rt: &(impl Print + AllocGlobal), options: InitOptions) -> ExitCode {
-    let topology = match options {
-        InitOptions::Line(bridges) => Topology::Line(bridges),
-        InitOptions::Ring(bridges) => Topology::Ring(bridges),
-        InitOptions::Star(bridges) => Topology::Star(bridges),
+    let topology = match options.network {
+        InitNetwork::Line(bridges) => Topology::Line(bridges),
+        InitNetwork::Ring(bridges) => Topology::Ring(bridges),
+        InitNetwork::Star(bridges) => Topology::Star(bridges),
+        InitNetwork::DualHomed(access) => Topology::DualHomed(access),
     };
-    match write_plan(rt.alloc(), topology, &mut io::writer(rt)) {
+    match write_plan(rt.alloc(), topology, options.services, &mut io::writer(rt)) {
         Err(fault) => tell(rt, fault),
         Ok(()) => ExitCode::SUCCESS,
     }

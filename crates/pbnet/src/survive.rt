@@ -1,12 +1,12 @@
 //! The command `survive`.
 
 use crate::accept::{AcceptEnd, acceptances_of};
-use crate::formatted::Output;
+use crate::formatted::{Output, head};
 use crate::looks::Looks;
 use crate::telling::tell_on;
 use crate::{contents, ended};
 use pb_accept::Acceptance;
-use pb_cli::{SurviveOptions, SurviveScope};
+use pb_cli::{ReportFormat, SurviveOptions, SurviveScope};
 use pb_cmd_survive::{Asked, Kinds, Scope, run_survive};
 use pb_export::{FAILURES, SURVIVE};
 use std::fs::Files;
@@ -31,7 +31,7 @@ pub(crate) fn tell_survivals<R: Files + Threads + Clock + Print + Eprint + Alloc
     options: &SurviveOptions,
     is_shown: bool,
 ) -> ExitCode {
-    let mut out = Output::new(rt, options.format);
+    let mut out = Output::new(rt, options.format, head("survive", options.path.as_str()));
     match tell_survivals_on(rt, options, is_shown, &mut out) {
         Ok(status) => out.end(&SURVIVE, Some(&FAILURES), status),
         Err(status) => status,
@@ -47,6 +47,7 @@ fn asked_of<'a>(options: &'a SurviveOptions, accepted: &'a [Acceptance]) -> Aske
         },
         scope: scope_of(&options.scope),
         own: options.own,
+        all: options.all_failures || options.format == ReportFormat::Json,
         ticks: options.ticks,
         accepted,
         strict: options.strict,

@@ -1,13 +1,15 @@
 //! The command `trace`.
 
+use crate::described::{NoFrame, described_hex};
 use crate::downs::refuse_down;
-use crate::formatted::Output;
+use crate::formatted::{Output, head};
 use crate::telling::{WRONG_ARGUMENTS, tell_on};
 use crate::{REFUSED, contents, ended};
 use pb_cli::{TraceEntry, TraceOptions};
 use pb_cmd_trace::{Asked, Entry, TraceEnd, run_trace};
 use pb_export::TRACE;
 use pb_messages::CommandFault;
+use pb_service::read_plan;
 use std::alloc::{AllocError, Global};
 use std::fs::Files;
 use std::io::Write;
@@ -28,12 +30,31 @@ fn entries_of(alloc: Global, given: &[TraceEntry]) -> Result<Vec<Entry>, AllocEr
     Ok(entries)
 }
 
+/// Sets the digits of the first frame, if options describe it and the file is a plan.
+///
+/// # Errors
+///
+/// Those of [`described_hex`].
+fn describe_first(
+    rt: &(impl Eprint + AllocGlobal),
+    file: &[u8],
+    options: &TraceOptions,
+    entries: &mut Vec<Entry>,
+) -> Result<(), NoFrame> {
+    if let (Some(described), Ok((plan, _ports))) = (&options.frame, read_plan(rt.alloc(), file)) {
+        if let Some(entry) = entries.first_mut() {
+            entry.hex = described_hex(rt, &plan, entry.port.as_str(), described)?;
+        }
+    }
+    Ok(())
+}
+
 /// Traces frames through the network of a plan file, in the form of the options. Returns the exit status.
 pub(crate) fn trace<R: Files + Print + Eprint + AllocGlobal>(
     rt: &R,
     options: &TraceOptions,
 ) -> ExitCode {
-    let mut out = Output::new(rt, options.format);
+    let mut out = Output::new(rt, options.format, head("trace", options.path.as_str()));
     match trace_on(rt, options, &mut out) {
         Ok(status) => out.end(&TRACE, None, status),
         Err(status) => status,
@@ -56,9 +77,14 @@ fn trace_on<R: Files + Eprint + AllocGlobal, W: Write>(
         Ok(file) => file,
         Err(status) => return Ok(status),
     };
-    let Ok(entries) = entries_of(rt.alloc(), options.entries.as_slice()) else {
+    let Ok(mut entries) = entries_of(rt.alloc(), options.entries.as_slice()) else {
         return Ok(tell_on(out, CommandFault::Memory));
     };
+    match describe_first(rt, file.as_slice(), options, &mut entries) {
+        Ok(()) => {}
+        Err(NoFrame::Refused(status)) => return Err(status),
+        Err(NoFrame::Memory) => return Ok(tell_on(out, CommandFault::Memory)),
+    }
     let asked = Asked {
         entries: entries.as_slice(),
         downs: options.downs.as_slice(),

@@ -1,7 +1,7 @@
 //! The command `tree`.
 
 use crate::downs::refuse_down;
-use crate::formatted::Output;
+use crate::formatted::{Output, head};
 use crate::telling::tell_on;
 use crate::{REFUSED, contents, ended};
 use pb_cli::TreeOptions;
@@ -16,7 +16,7 @@ pub(crate) fn tree<R: Files + Print + Eprint + AllocGlobal>(
     rt: &R,
     options: &TreeOptions,
 ) -> ExitCode {
-    let mut out = Output::new(rt, options.format);
+    let mut out = Output::new(rt, options.format, head("tree", options.path.as_str()));
     match tree_on(rt, options, &mut out) {
         Ok(status) => out.end(&TREE, None, status),
         Err(status) => status,

@@ -8,6 +8,7 @@ ghost use Rattle.pb_frame.specs.Admission.{block};
 ghost use Rattle.pb_report.specs.Refusals.{IsRefusalText};
 
 mod examples;
+mod settled;
 
 use pb_cmd_check::{run_check, run_show};
 use pb_fakes::{Full, Unflushed};

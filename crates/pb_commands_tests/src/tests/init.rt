@@ -3,9 +3,10 @@
 ghost use Rattle.std.specs.Prelude.{◌++◌, flat_map, OnOk};
 ghost use Rattle.std.specs.Io.KnownBytes.{Appends};
 ghost use Rattle.std.specs.List.{range_with_len};
-ghost use Rattle.pb_cmd_init.specs.PlanTexts.{head_text, keys_text, places_text, bridge_text};
-ghost use Rattle.pb_cmd_init.specs.PlanTexts.{link_text, service_text, port_text, kinds_text};
-ghost use Rattle.pb_cmd_init.specs.Topologies.{bridge_count, link_count, port_count, site_of};
+ghost use Rattle.pb_cmd_init.specs.PlanTexts.{head_text, keys_text, further_text, places_text, bridge_text};
+ghost use Rattle.pb_cmd_init.specs.PlanTexts.{link_text, services_text, ports_text, kinds_text, failures_text};
+ghost use Rattle.pb_cmd_init.specs.Services.{service_count};
+ghost use Rattle.pb_cmd_init.specs.Topologies.{bridge_count, link_count, site_bridge};
 
 mod examples;
 
@@ -19,82 +20,157 @@ use std::io::Write;
 use std::process::Abort;
 use std::test::Fail;
 
-/// The content of a file: the numbers of bridges, links and customer ports, the milliseconds of a tick, and the ticks
-/// before the first frame.
-type Told = (u8, u8, u8, u64, u64);
+/// The content of a file: the numbers of bridges, links, services and customer ports.
+#[derive(Clone, Copy)]
+struct Content {
+    bridges: u8,
+    links: u8,
+    services: u8,
+    ports: u8,
+}
 
-/// Checks that a file is a plan with this content, with one service and no forwarding loop at start.
-fn tells(rt: &impl Abort, alloc: Global, file: &[u8], want: Told) -> Result<(), Fail> {
-    let (bridges, links, ports, tick_ms, hold) = want;
+/// The limits of a run without any.
+const UNLIMITED: Limits = Limits {
+    turns: u64::MAX,
+    tick_every: 0,
+    tick_ms: 0,
+    hold: 0,
+};
+
+/// The limits of a run with a clock.
+const CLOCK: Limits = Limits {
+    turns: u64::MAX,
+    tick_every: 0,
+    tick_ms: 10,
+    hold: 200,
+};
+
+/// The limits of a run with all suggestions.
+const SUGGESTED: Limits = Limits {
+    turns: 1_000_000_000,
+    tick_every: 0,
+    tick_ms: 10,
+    hold: 200,
+};
+
+/// Checks that a file is a plan with this content and no forwarding loop at start. So no local port is used twice.
+fn holds(rt: &impl Abort, alloc: Global, file: &[u8], want: Content) -> Result<(), Fail> {
     let answer = format!(in alloc;
-        "ok bridges {bridges} links {links} services 1 ports {ports}\nforest yes\n"
+        "ok bridges {} links {} services {} ports {}\nforest yes\n",
+        want.bridges, want.links, want.services, want.ports
     )?;
     let mut output = Vec::new(alloc);
     assert_eq!(rt; run_check(alloc, file, &mut output), Ok(0));
     assert!(rt; output.as_slice() == answer.as_bytes(), "{answer}");
-    let Ok(limits) = read_limits(alloc, file) else {
-        panic!(rt; "no limits");
-    };
-    assert_eq!(rt;
-        limits,
-        Limits {
-            turns: u64::MAX,
-            tick_every: 0,
-            tick_ms,
-            hold
-        }
-    );
     Ok(())
 }
 
-/// Returns the file with its suggestions: the keys and tables that follow a comment sign without a space.
-fn tried(alloc: Global, file: &[u8]) -> Result<String, AllocError> {
+/// Checks that a file is a plan with these limits of a run.
+fn has_limits(rt: &impl Abort, alloc: Global, file: &[u8], want: Limits) -> Result<(), Fail> {
+    let mut output = Vec::new(alloc);
+    assert_eq!(rt; run_check(alloc, file, &mut output), Ok(0));
+    let Ok(limits) = read_limits(alloc, file) else {
+        panic!(rt; "no limits");
+    };
+    assert_eq!(rt; limits, want);
+    Ok(())
+}
+
+/// Returns whether a line is a suggestion: a key or a table that follows a comment sign without a space.
+fn is_suggestion(line: &str) -> bool {
+    match line.strip_prefix('#') {
+        Some(rest) => !rest.is_empty() && !rest.starts_with(' '),
+        None => false,
+    }
+}
+
+/// Returns the file with its suggestions from the block `first` to the block `last`. A block of suggestions is a run of
+/// such lines, and the first one has number 0. Returns the number of blocks too.
+fn tried(alloc: Global, file: &[u8], first: u32, last: u32) -> Result<(String, u32), AllocError> {
     let mut text = String::new(alloc);
+    let mut blocks = 0u32;
+    let mut inside = false;
     for line in std::str::from_utf8(file).unwrap_or("").lines() {
+        let suggested = is_suggestion(line);
+        if inside && !suggested {
+            blocks = blocks.saturating_add(1);
+        }
+        inside = suggested;
         let line = match line.strip_prefix('#') {
-            Some(rest) if !rest.starts_with(' ') => rest,
+            Some(rest) if suggested && first <= blocks && blocks <= last => rest,
             _ => line,
         };
         text.push_str(line)?;
         text.push('\n')?;
     }
-    Ok(text)
+    if inside {
+        blocks = blocks.saturating_add(1);
+    }
+    Ok((text, blocks))
 }
 
-/// Calls `write_plan` with what a caller may conclude: a table for each bridge, link and customer port of the topology,
-/// in order, between the keys of the network and the suggestions.
-fn begun<W: Write>(alloc: Global, topology: Topology, writer: &mut W) -> Result<(), CommandFault>
+/// Calls `write_plan` with what a caller may conclude: a table for each bridge, link, service and customer port, in
+/// order, between the keys of the network and the suggestions.
+fn begun<W: Write>(
+    alloc: Global,
+    topology: Topology,
+    services: u8,
+    writer: &mut W,
+) -> Result<(), CommandFault>
     ensures { OnOk result (Appends (W.contents writer.old) (W.contents writer.new)
-        (head_text ++ keys_text topology ++ places_text
+        (head_text ++ keys_text topology ++ further_text ++ places_text
         ++ flat_map bridge_text (range_with_len 1 (bridge_count topology))
         ++ flat_map (link_text topology) (range_with_len 1 (link_count topology))
-        ++ service_text
-        ++ flat_map (port_text topology) (range_with_len 1 (port_count topology))
-        ++ kinds_text (site_of topology 1))) }
+        ++ services_text (service_count services)
+        ++ flat_map (ports_text topology) (range_with_len 1 (service_count services))
+        ++ kinds_text (site_bridge topology 1) (service_count services)
+        ++ failures_text topology)) }
 {
-    write_plan(alloc, topology, writer)
+    write_plan(alloc, topology, services, writer)
 }
 
-/// Checks that the file of a topology is a plan with this content, and also the file with its suggestions, which has
-/// two more ports and a clock.
-fn begins(rt: &impl Abort, alloc: Global, topology: Topology, want: Told) -> Result<(), Fail> {
+/// Checks that the blocks of suggestions of a file, so many, can be used each alone and all together.
+fn suggests(rt: &impl Abort, alloc: Global, file: &[u8], most: u32) -> Result<(), Fail> {
+    let (all, blocks) = tried(alloc, file, 0, u32::MAX)?;
+    assert_eq!(rt; blocks, most);
+    has_limits(rt, alloc, all.as_bytes(), SUGGESTED)?;
+    for block in 0..blocks {
+        let (one, _) = tried(alloc, file, block, block)?;
+        let mut output = Vec::new(alloc);
+        assert_eq!(rt;
+            run_check(alloc, one.as_bytes(), &mut output),
+            Ok(0),
+            "{block}"
+        );
+    }
+    Ok(())
+}
+
+/// Checks that the file of a topology is a plan with this content.
+fn begins(rt: &impl Abort, alloc: Global, topology: Topology, want: Content) -> Result<(), Fail> {
     let mut file = Vec::new(alloc);
-    assert_eq!(rt; begun(alloc, topology, &mut file), Ok(()));
-    tells(rt, alloc, file.as_slice(), want)?;
-    let (bridges, links, ports, _, _) = want;
-    let all = tried(alloc, file.as_slice())?;
-    tells(
-        rt,
-        alloc,
-        all.as_bytes(),
-        (bridges, links, ports.saturating_add(2), 10, 200),
-    )
+    assert_eq!(rt; begun(alloc, topology, want.services, &mut file), Ok(()));
+    holds(rt, alloc, file.as_slice(), want)
+}
+
+/// Returns the number of services with which a network of this size is tried: 1 to 4, and 4 at sizes that 4 divides.
+fn services_with(size: u8) -> u8 {
+    match size % 4 {
+        0 => 4,
+        rest => rest,
+    }
 }
 
 #[test]
 fn lines_are_plans(rt: HostRuntime) -> Result<(), Fail> {
     for n in 1..33u8 {
-        begins(&rt, rt.alloc(), Topology::Line(n), (n, n - 1, n, 0, 0))?;
+        let want = Content {
+            bridges: n,
+            links: n - 1,
+            services: services_with(n),
+            ports: n.saturating_mul(services_with(n)),
+        };
+        begins(&rt, rt.alloc(), Topology::Line(n), want)?;
     }
     Ok(())
 }
@@ -102,7 +178,13 @@ fn lines_are_plans(rt: HostRuntime) -> Result<(), Fail> {
 #[test]
 fn rings_are_plans(rt: HostRuntime) -> Result<(), Fail> {
     for n in 3..33u8 {
-        begins(&rt, rt.alloc(), Topology::Ring(n), (n, n, n, 10, 200))?;
+        let want = Content {
+            bridges: n,
+            links: n,
+            services: services_with(n),
+            ports: n.saturating_mul(services_with(n)),
+        };
+        begins(&rt, rt.alloc(), Topology::Ring(n), want)?;
     }
     Ok(())
 }
@@ -110,14 +192,83 @@ fn rings_are_plans(rt: HostRuntime) -> Result<(), Fail> {
 #[test]
 fn stars_are_plans(rt: HostRuntime) -> Result<(), Fail> {
     for n in 2..18u8 {
-        begins(&rt, rt.alloc(), Topology::Star(n), (n, n - 1, n - 1, 0, 0))?;
+        let want = Content {
+            bridges: n,
+            links: n - 1,
+            services: services_with(n),
+            ports: (n - 1).saturating_mul(services_with(n)),
+        };
+        begins(&rt, rt.alloc(), Topology::Star(n), want)?;
     }
     Ok(())
 }
 
 #[test]
-fn links_join_the_bridges(rt: HostRuntime) -> Result<(), Fail> {
+fn dual_homed_bridges_are_plans(rt: HostRuntime) -> Result<(), Fail> {
+    for n in 2..25u8 {
+        let want = Content {
+            bridges: n + 4,
+            links: 2 * n + 4,
+            services: services_with(n),
+            ports: n.saturating_mul(services_with(n)),
+        };
+        begins(&rt, rt.alloc(), Topology::DualHomed(n), want)?;
+    }
+    Ok(())
+}
+
+#[test]
+fn each_suggestion_can_be_used(rt: HostRuntime) -> Result<(), Fail> {
     let alloc = rt.alloc();
+    for (topology, services, blocks, limits) in [
+        (Topology::Line(1), 1, 8, UNLIMITED),
+        (Topology::Line(2), 1, 12, UNLIMITED),
+        (Topology::Ring(3), 2, 10, CLOCK),
+        (Topology::Star(4), 3, 12, UNLIMITED),
+        (Topology::DualHomed(2), 4, 10, CLOCK),
+    ] {
+        let mut file = Vec::new(alloc);
+        assert_eq!(rt; write_plan(alloc, topology, services, &mut file), Ok(()));
+        has_limits(&rt, alloc, file.as_slice(), limits)?;
+        suggests(&rt, alloc, file.as_slice(), blocks)?;
+    }
+    Ok(())
+}
+
+#[test]
+fn numbers_beyond_the_most_are_as_the_most(rt: HostRuntime) -> Result<(), Fail> {
+    let alloc = rt.alloc();
+    let mut most = Vec::new(alloc);
+    let mut more = Vec::new(alloc);
+    assert_eq!(rt;
+        write_plan(alloc, Topology::DualHomed(24), 4, &mut most),
+        Ok(())
+    );
+    assert_eq!(rt;
+        write_plan(alloc, Topology::DualHomed(255), 255, &mut more),
+        Ok(())
+    );
+    assert!(rt; most.as_slice() == more.as_slice());
+    Ok(())
+}
+
+/// Checks that the file of a topology with services has this part.
+fn has(
+    rt: &impl Abort,
+    alloc: Global,
+    topology: Topology,
+    services: u8,
+    part: &str,
+) -> Result<(), Fail> {
+    let mut file = Vec::new(alloc);
+    assert_eq!(rt; write_plan(alloc, topology, services, &mut file), Ok(()));
+    let text = std::str::from_utf8(file.as_slice()).unwrap_or("");
+    assert!(rt; text.contains(part), "{topology:?}: {part}");
+    Ok(())
+}
+
+#[test]
+fn links_join_the_bridges(rt: HostRuntime) -> Result<(), Fail> {
     for (topology, part) in [
         (
             Topology::Line(32),
@@ -145,10 +296,40 @@ fn links_join_the_bridges(rt: HostRuntime) -> Result<(), Fail> {
             "B32\"\naddress = \"02-00-00-00-00-20\"\n",
         ),
     ] {
-        let mut file = Vec::new(alloc);
-        assert_eq!(rt; write_plan(alloc, topology, &mut file), Ok(()));
-        let text = std::str::from_utf8(file.as_slice()).unwrap_or("");
-        assert!(rt; text.contains(part), "{topology:?}: {part}");
+        has(&rt, rt.alloc(), topology, 1, part)?;
+    }
+    Ok(())
+}
+
+#[test]
+fn uplinks_join_two_core_bridges(rt: HostRuntime) -> Result<(), Fail> {
+    for part in [
+        "L4\"\na = \"B4\"\na_port = 1\nb = \"B1\"\nb_port = 2\n",
+        "L5\"\na = \"B1\"\na_port = 3\nb = \"B5\"\nb_port = 1\n",
+        "L6\"\na = \"B2\"\na_port = 4\nb = \"B5\"\nb_port = 2\n",
+        "L11\"\na = \"B4\"\na_port = 3\nb = \"B8\"\nb_port = 1\n",
+        "L12\"\na = \"B1\"\na_port = 4\nb = \"B8\"\nb_port = 2\n",
+        "L13\"\na = \"B1\"\na_port = 5\nb = \"B9\"\nb_port = 1\n",
+        "L52\"\na = \"B1\"\na_port = 14\nb = \"B28\"\nb_port = 2\n",
+        "C24\"\nbridge = \"B28\"\nport = 3\nservice = \"red\"\n",
+    ] {
+        has(&rt, rt.alloc(), Topology::DualHomed(24), 1, part)?;
+    }
+    Ok(())
+}
+
+#[test]
+fn services_have_ports_at_each_site(rt: HostRuntime) -> Result<(), Fail> {
+    for part in [
+        "vid = 100\n\n[[service]]\nname = \"blue\"\nvid = 200\n\n[[service]]\nname = \"green\"\nvid = 300\n\n",
+        "[[service]]\nname = \"yellow\"\nvid = 400\n\n",
+        "C2\"\nbridge = \"B3\"\nport = 3\nservice = \"red\"\n",
+        "C1-blue\"\nbridge = \"B2\"\nport = 4\nservice = \"blue\"\n\n",
+        "C2-green\"\nbridge = \"B3\"\nport = 5\nservice = \"green\"\n\n",
+        "C3-yellow\"\nbridge = \"B4\"\nport = 6\nservice = \"yellow\"\n\n",
+        "#name = \"socket\"\n#bridge = \"B2\"\n#port = 8\n",
+    ] {
+        has(&rt, rt.alloc(), Topology::Star(4), 4, part)?;
     }
     Ok(())
 }
@@ -157,7 +338,7 @@ fn links_join_the_bridges(rt: HostRuntime) -> Result<(), Fail> {
 fn two_bridges_in_a_line_are_the_example(rt: HostRuntime) -> Result<(), Fail> {
     let mut file = Vec::new(rt.alloc());
     assert_eq!(rt;
-        write_plan(rt.alloc(), Topology::Line(2), &mut file),
+        write_plan(rt.alloc(), Topology::Line(2), 1, &mut file),
         Ok(())
     );
     assert!(rt; file.as_slice() == examples::INIT.as_bytes());
@@ -167,9 +348,9 @@ fn two_bridges_in_a_line_are_the_example(rt: HostRuntime) -> Result<(), Fail> {
 #[test]
 fn a_failed_write_is_told(rt: HostRuntime) {
     for room in [0, 1, 1000] {
-        let wrote = write_plan(rt.alloc(), Topology::Ring(3), &mut Full { room });
+        let wrote = write_plan(rt.alloc(), Topology::Ring(3), 1, &mut Full { room });
         assert_eq!(rt; wrote, Err(CommandFault::Write), "at {room}");
     }
-    let wrote = write_plan(rt.alloc(), Topology::Ring(3), &mut Unflushed);
+    let wrote = write_plan(rt.alloc(), Topology::Ring(3), 1, &mut Unflushed);
     assert_eq!(rt; wrote, Err(CommandFault::Write));
 }

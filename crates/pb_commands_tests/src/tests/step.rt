@@ -12,6 +12,7 @@ mod losses;
 mod metro;
 mod parallel;
 mod settling;
+mod testing;
 mod two_bridges;
 
 use pb_cmd_step::run_script;

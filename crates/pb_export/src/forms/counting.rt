@@ -4,7 +4,7 @@ use super::shared::{
     FAULT, FOREST, LOOP, LOOPS, NAMED_PLAN_FAULT, OTHER, OTHERS, PLAN_FAULT, PLAN_FAULTS, YES_OR_NO,
 };
 use crate::tables::{Cell, CellRow, Table};
-use crate::templates::{Form, Kind, ListForm, ListShape, Slot, Template};
+use crate::templates::{Choice, Form, Kind, ListForm, ListShape, Said, Slot, Template};
 
 /// How a run ended.
 const ENDED: &[Slot] = slots![("ended", Kind::Text, ""),];
@@ -30,7 +30,43 @@ const LINK: &[Slot] = slots![
 const SETTLED: &[Slot] = slots![("settled", Kind::OneOf(YES_OR_NO), ""),];
 
 /// The fault of a port's input.
-const PORT_FAULT: &[Slot] = slots![("port", Kind::Text, " "), ("fault", Kind::Number, ""),];
+const PORT_FAULT: &[Slot] = slots![("port", Kind::Text, " "), ("code", Kind::Number, ""),];
+
+/// Frames were not written.
+const FRAMES: &[Choice] = choices![("frames not written", Said::Word("frames not written")),];
+
+/// Copies of frames, or a bridge's own BPDUs, were not queued.
+const COPIES: &[Choice] = choices![
+    ("copies not queued", Said::Word("copies not queued")),
+    ("BPDUs not queued", Said::Word("BPDUs not queued")),
+];
+
+/// Sources were not learnt.
+const SOURCES: &[Choice] = choices![("sources not learnt", Said::Word("sources not learnt")),];
+
+/// Bridges have not converged.
+const CONVERGENCE: &[Choice] = choices![(
+    "bridges not converged",
+    Said::Word("bridges not converged")
+),];
+
+/// Why a bridge dropped something.
+const CAUSES: &[Choice] = choices![
+    ("full", Said::Word("full")),
+    ("memory", Said::Word("memory")),
+];
+
+/// The uses that a customer port makes of a path.
+const USES: &[Choice] = choices![
+    ("read", Said::Word("read")),
+    ("cannot read", Said::Word("read")),
+    ("write", Said::Word("write")),
+    ("connect", Said::Word("connect")),
+    ("listen", Said::Word("listen")),
+];
+
+/// The use of a control socket.
+const CONTROL: &[Choice] = choices![("create control socket", Said::Word("control")),];
 
 /// The reply to a line of a script.
 const ANSWER: &[Slot] = slots![("answer", Kind::Text, ""),];
@@ -44,6 +80,51 @@ const LINK_LINE: Template = template!("links", "link ", LINK);
 /// Whether the bridges have converged.
 const SETTLED_LINE: Template = template!("", "settled ", SETTLED);
 
+/// The frames that a customer port did not write.
+const UNWRITTEN: &[Slot] = slots![
+    ("port", Kind::Text, ": "),
+    ("count", Kind::Number, " "),
+    ("what", Kind::OneOf(FRAMES), ""),
+];
+
+/// The copies or BPDUs that a bridge did not queue at a port.
+const UNQUEUED: &[Slot] = slots![
+    ("bridge", Kind::Text, " port "),
+    ("bridge_port", Kind::Number, ": "),
+    ("count", Kind::Number, " "),
+    ("what", Kind::OneOf(COPIES), ": "),
+    ("cause", Kind::OneOf(CAUSES), ""),
+];
+
+/// The sources that a bridge did not learn.
+const UNLEARNT: &[Slot] = slots![
+    ("bridge", Kind::Text, ": "),
+    ("count", Kind::Number, " "),
+    ("what", Kind::OneOf(SOURCES), ": "),
+    ("cause", Kind::OneOf(CAUSES), ""),
+];
+
+/// The bridges have not converged.
+const UNSETTLED: &[Slot] = slots![("what", Kind::OneOf(CONVERGENCE), ""),];
+
+/// A path that a customer port could not use.
+const PORT_PATH: &[Slot] = slots![
+    ("port", Kind::Text, ": "),
+    ("use", Kind::OneOf(USES), " "),
+    ("path", Kind::Text, ": "),
+    ("why", Kind::Text, ""),
+];
+
+/// The path of a control socket that was not created.
+const CONTROL_PATH: &[Slot] = slots![
+    ("use", Kind::OneOf(CONTROL), " "),
+    ("path", Kind::Text, ": "),
+    ("why", Kind::Text, ""),
+];
+
+/// A warning about the run.
+const WARNING: &[Slot] = slots![("message", Kind::Text, ""),];
+
 /// The lines of a run.
 const RUN_LINES: &[Template] = &[
     template!("", "ended ", ENDED),
@@ -53,6 +134,13 @@ const RUN_LINES: &[Template] = &[
     LOOP,
     SETTLED_LINE,
     template!("port_faults", "fault: port ", PORT_FAULT),
+    template!("losses", "port ", UNWRITTEN),
+    template!("losses", "bridge ", UNQUEUED),
+    template!("losses", "bridge ", UNLEARNT),
+    template!("losses", "", UNSETTLED),
+    template!("paths", "error: port ", PORT_PATH),
+    template!("paths", "error: cannot ", CONTROL_PATH),
+    template!("warnings", "warning: ", WARNING),
     FAULT,
     NAMED_PLAN_FAULT,
     PLAN_FAULT,
@@ -84,6 +172,9 @@ const RUN_LISTS: &[ListForm] = &[
     LINKS,
     LOOPS,
     list!("port_faults", ListShape::Objects, &[]),
+    list!("losses", ListShape::Objects, &[]),
+    list!("paths", ListShape::Objects, &[]),
+    list!("warnings", ListShape::Objects, &[]),
     PLAN_FAULTS,
     OTHERS,
 ];

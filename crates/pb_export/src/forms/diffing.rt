@@ -161,6 +161,21 @@ const TWO_REST: &[Slot] = slots![
     ("converges", Kind::OneOf(CONVERGES), ""),
 ];
 
+/// How the network has changed under the failure of a link or a bridge.
+const ONE_CHANGE: &[Slot] = slots![
+    ("down", Kind::OneOf(ONE_DOWN), ""),
+    ("name", Kind::Text, " down: "),
+    ("change", Kind::Text, ""),
+];
+
+/// The same with two links down.
+const TWO_CHANGE: &[Slot] = slots![
+    ("down", Kind::OneOf(TWO_DOWN), ""),
+    ("name", Kind::Text, " "),
+    ("other", Kind::Text, " down: "),
+    ("change", Kind::Text, ""),
+];
+
 /// The most ticks to convergence in both plans.
 const TICKS: &[Slot] = slots![
     ("old_most_ticks", Kind::Number, " -> "),
@@ -183,7 +198,7 @@ const SUMMARY: &[Slot] = slots![
         Kind::Number,
         " failures; with nothing down: "
     ),
-    ("nothing_down", Kind::Text, ""),
+    ("nothing_down_change", Kind::Text, ""),
 ];
 
 /// That there is no difference.
@@ -197,13 +212,15 @@ const LINES: &[Template] = &[
     template!("reach", "service ", REACH),
     template!("reach", "service ", ONE_REACH),
     template!("reach", "service ", TWO_REACH),
-    template!("loops", "service ", LOOP),
-    template!("loops", "service ", ONE_LOOP),
-    template!("loops", "service ", TWO_LOOP),
+    template!("loop_changes", "service ", LOOP),
+    template!("loop_changes", "service ", ONE_LOOP),
+    template!("loop_changes", "service ", TWO_LOOP),
     template!("ends", "link ", ENDS),
     template!("convergence", "", REST),
     template!("convergence", "", ONE_REST),
     template!("convergence", "", TWO_REST),
+    template!("failures", "", ONE_CHANGE),
+    template!("failures", "", TWO_CHANGE),
     template!("parts", "", ADDED),
     template!("parts", "", REMOVED),
     template!("fields", "", ALTERED),
@@ -226,9 +243,10 @@ const LISTS: &[ListForm] = &[
     list!("fields", ListShape::Objects, &[]),
     list!("network", ListShape::Objects, &[]),
     list!("reach", ListShape::Objects, &[]),
-    list!("loops", ListShape::Objects, &[]),
+    list!("loop_changes", ListShape::Objects, &[]),
     list!("ends", ListShape::Objects, &[]),
     list!("convergence", ListShape::Objects, &[]),
+    list!("failures", ListShape::Objects, &[]),
     list!("no_such", ListShape::Single, &[]),
     PLAN_FAULTS,
     OTHERS,

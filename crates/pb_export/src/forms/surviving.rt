@@ -110,8 +110,8 @@ const TWO_GIVEN: &[Slot] = slots![
     ("forest", Kind::OneOf(YES_OR_NO), ""),
 ];
 
-/// A service whose active links form a loop.
-const RING: &[Slot] = slots![("service", Kind::Text, ""),];
+/// A service whose active links form a loop: its name alone.
+const RING: &[Slot] = slots![("", Kind::Text, ""),];
 
 /// The ports of a service, in groups that reach each other.
 const SERVICE: &[Slot] = slots![("name", Kind::Text, ":"), ("groups", Kind::Groups, ""),];

@@ -29,36 +29,53 @@ const ACCEPTED: &str =
     stale acceptance: links a b service red\nuntried acceptance: bridge B2 service red\n\
     untried acceptance: links b c\nsurvives every failure that is not accepted\n";
 
+/// A run with losses, and with paths that it could not use.
+const LOST: &str =
+    "ended drained\nport C1: 3 frames not written\nbridge B2 port 1: 2571 copies not queued: full\n\
+    bridge B2 port 1: 4 BPDUs not queued: memory\nbridge B2: 17 sources not learnt: full\nbridges not converged\n\
+    error: port C1: write out/a.pcap: also the plan file\nerror: port C2: cannot read in.pcap: it is a pcapng file\n\
+    error: cannot create control socket out/net: File exists\nwarning: 1 event did not take place\nhint: convert it\n";
+
 /// Reports of `check`.
 pub(super) const CHECKS: &[Said] = &[
     Said {
         text: "ok bridges 2 links 1 services 1 ports 2\nforest yes\n",
-        json: r#"{"plan": {"bridges": 2, "links": 1, "services": 1, "ports": 2}, "forest": true,
+        json: r#"{"counts": {"bridges": 2, "links": 1, "services": 1, "ports": 2}, "forest": true,
             "loops": [], "warnings": []}"#,
     },
     Said {
         text: "ok bridges 3 links 3 services 2 ports 4\nforest no\nloop red\n",
-        json: r#"{"plan": {"bridges": 3, "links": 3, "services": 2, "ports": 4}, "forest": false,
+        json: r#"{"counts": {"bridges": 3, "links": 3, "services": 2, "ports": 4}, "forest": false,
             "loops": ["red"], "warnings": []}"#,
     },
     Said {
         text: "ok bridges 2 links 1 services 2 ports 2\nforest yes\nwarning: file:26: service \"blue\" has no port\n\
             warning: file: bridge \"B1\" has no links\n",
-        json: r#"{"plan": {"bridges": 2, "links": 1, "services": 2, "ports": 2}, "forest": true, "loops": [],
+        json: r#"{"counts": {"bridges": 2, "links": 1, "services": 2, "ports": 2}, "forest": true, "loops": [],
             "warnings": [{"line": 26, "message": "service \"blue\" has no port"},
                 {"message": "bridge \"B1\" has no links"}]}"#,
     },
     Said {
         text: "plan: 3 missing bridge.name\n",
-        json: r#"{"plan_fault": {"rule": 3, "fault": "missing", "name": "bridge.name"}, "loops": [], "warnings": []}"#,
+        json: r#"{"plan_fault": {"rule": 3, "fault": "missing", "name": "bridge.name", "errors": []},
+            "loops": [], "warnings": []}"#,
     },
     Said {
         text: "plan: 1 utf8\n",
-        json: r#"{"plan_fault": {"rule": 1, "fault": "utf8"}, "loops": [], "warnings": []}"#,
+        json: r#"{"plan_fault": {"rule": 1, "fault": "utf8", "errors": []}, "loops": [], "warnings": []}"#,
+    },
+    Said {
+        text: "plan: 8 no-such B3\nerror: 15:5: a: b.toml\tno bridge is named \"B3\"\tdid you mean \"B1\"?\n\
+            error: 2:8: a: b.toml\tageing 5: no\nerror: p\tunknown key \"a: b\"\n",
+        json: r#"{"plan_fault": {"rule": 8, "fault": "no-such", "name": "B3", "errors": [
+            {"line": 15, "column": 5, "file": "a: b.toml", "message": "no bridge is named \"B3\"",
+                "hint": "did you mean \"B1\"?"},
+            {"line": 2, "column": 8, "file": "a: b.toml", "message": "ageing 5: no"},
+            {"file": "p", "message": "unknown key \"a: b\""}]}, "loops": [], "warnings": []}"#,
     },
     Said {
         text: "plan: 6 unknown a\nb \"c\"\n",
-        json: r#"{"plan_fault": {"rule": 6, "fault": "unknown", "name": "a"},
+        json: r#"{"plan_fault": {"rule": 6, "fault": "unknown", "name": "a", "errors": []},
             "loops": [], "warnings": [], "other": ["b \"c\""]}"#,
     },
     Said {
@@ -77,18 +94,32 @@ pub(super) const RUNS: &[Said] = &[
         text: COUNTED,
         json: r#"{"ended": "limit", "ports": [{"name": "C1", "entered": 2, "left": 1, "filtered": 0}],
             "links": [{"name": "L1", "ab_taken": 3, "ab_lost": 1, "ba_taken": 4, "ba_lost": 0}], "forest": false,
-            "loops": ["red", "blue"], "settled": false, "port_faults": [{"port": "C1", "fault": 13}],
+            "loops": ["red", "blue"], "settled": false, "port_faults": [{"port": "C1", "code": 13}],
+            "losses": [], "paths": [], "warnings": [],
             "fault": "memory"}"#,
     },
     Said {
         text: "port C1 entered 18446744073709551615 left 0 filtered 007\n",
-        json: r#"{"ports": [], "links": [], "loops": [], "port_faults": [],
+        json: r#"{"ports": [], "links": [], "loops": [], "port_faults": [], "losses": [], "paths": [], "warnings": [],
             "other": ["port C1 entered 18446744073709551615 left 0 filtered 007"]}"#,
     },
     Said {
         text: "port C1 entered 18446744073709551615 left 0 filtered 7\nfault: spawn\n",
         json: r#"{"ports": [{"name": "C1", "entered": 18446744073709551615, "left": 0, "filtered": 7}], "links": [],
-            "loops": [], "port_faults": [], "fault": "spawn"}"#,
+            "loops": [], "port_faults": [], "losses": [], "paths": [], "warnings": [], "fault": "spawn"}"#,
+    },
+    Said {
+        text: LOST,
+        json: r#"{"ended": "drained", "ports": [], "links": [], "loops": [], "port_faults": [], "losses": [
+                {"port": "C1", "count": 3, "what": "frames not written"},
+                {"bridge": "B2", "bridge_port": 1, "count": 2571, "what": "copies not queued", "cause": "full"},
+                {"bridge": "B2", "bridge_port": 1, "count": 4, "what": "BPDUs not queued", "cause": "memory"},
+                {"bridge": "B2", "count": 17, "what": "sources not learnt", "cause": "full"},
+                {"what": "bridges not converged"}],
+            "paths": [{"port": "C1", "use": "write", "path": "out/a.pcap", "why": "also the plan file"},
+                {"port": "C2", "use": "read", "path": "in.pcap", "why": "it is a pcapng file"},
+                {"use": "control", "path": "out/net", "why": "File exists"}],
+            "warnings": [{"message": "1 event did not take place"}], "other": ["hint: convert it"]}"#,
     },
 ];
 
@@ -161,7 +192,7 @@ pub(super) const TREES: &[Said] = &[
 pub(super) const SURVIVALS: &[Said] = &[
     Said {
         text: FAILED,
-        json: r#"{"nothing_down": {"settled": true, "ticks": 3, "forest": false, "loops": [{"service": "red"}],
+        json: r#"{"nothing_down": {"settled": true, "ticks": 3, "forest": false, "loops": ["red"],
                 "services": [{"name": "red", "groups": [["C1", "C2"], ["C3"], ["C4"]]}],
                 "unhealthy": [{"service": "red", "fault": "disconnected"}, {"service": "red", "fault": "loop"}]},
             "acceptances": [], "failures": [
@@ -231,6 +262,7 @@ const CHANGE: &str =
     service blue: bridge B1 down: no longer forms a forwarding loop\n\
     link L2 with nothing down: a root forwarding, b designated forwarding -> a forwarding, b discarding\n\
     nothing down: bridges now converge\nlink L2 down: bridges no longer converge\n\
+    link L2 down: worse\nlinks L2 L3 down: better and worse\nbridge B1 down: no change\n\
     most ticks to convergence: 7 -> none\n\
     better: 1 of 5 failures; worse: 0 of 5 failures; with nothing down: worse\n";
 
@@ -244,22 +276,27 @@ pub(super) const CHANGES: &[Said] = &[
             "reach": [
                 {"service": "red", "down": "nothing", "reach": false, "groups": [["C1", "C2"], ["C3"]]},
                 {"service": "red", "down": "link", "name": "L2", "reach": true, "groups": [["C1"], ["C2"], ["C3"]]}],
-            "loops": [
+            "loop_changes": [
                 {"service": "red", "down": "links", "name": "L2", "other": "L3", "loop": true},
                 {"service": "blue", "down": "bridge", "name": "B1", "loop": false}],
             "ends": [{"link": "L2", "old_a": "root forwarding", "old_b": "designated forwarding", "new_a": "forwarding",
                 "new_b": "discarding"}],
             "convergence": [{"down": "nothing", "converges": true}, {"down": "link", "name": "L2", "converges": false}],
-            "old_most_ticks": 7, "better": 1, "worse": 0, "failures_tried": 5, "nothing_down": "worse"}"#,
+            "failures": [{"down": "link", "name": "L2", "change": "worse"},
+                {"down": "links", "name": "L2", "other": "L3", "change": "better and worse"},
+                {"down": "bridge", "name": "B1", "change": "no change"}],
+            "old_most_ticks": 7, "better": 1, "worse": 0, "failures_tried": 5, "nothing_down_change": "worse"}"#,
     },
     Said {
         text: "no difference\n",
-        json: r#"{"network": [], "parts": [], "fields": [], "reach": [], "loops": [], "ends": [], "convergence": [],
+        json: r#"{"network": [], "parts": [], "fields": [], "reach": [], "loop_changes": [], "ends": [],
+            "convergence": [], "failures": [],
             "differs": false}"#,
     },
     Said {
         text: "no such service green\n",
-        json: r#"{"network": [], "parts": [], "fields": [], "reach": [], "loops": [], "ends": [], "convergence": [],
+        json: r#"{"network": [], "parts": [], "fields": [], "reach": [], "loop_changes": [], "ends": [],
+            "convergence": [], "failures": [],
             "no_such": {"service": "green"}}"#,
     },
 ];

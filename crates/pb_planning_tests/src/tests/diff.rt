@@ -29,6 +29,7 @@ const ALL: Asked = Asked {
     },
     compared: Compared::All,
     ticks: 200,
+    all: false,
 };
 
 /// Single links and pairs of links.
@@ -81,6 +82,30 @@ fn equal_plans_have_no_difference(rt: HostRuntime) -> Result<(), Fail> {
         )?;
     }
     Ok(())
+}
+
+#[test]
+fn each_failure_has_a_line_on_request(rt: HostRuntime) -> Result<(), Fail> {
+    let alloc = rt.alloc();
+    let all = Asked { all: true, ..ALL };
+    let same = "link L1 down: no change\nlink L2 down: no change\nno difference\n";
+    says(
+        &rt,
+        alloc,
+        (plans::LINE, plans::LINE),
+        &all,
+        DiffEnd::Kept,
+        same,
+    )?;
+    let files = (plans::FIXED_RING, plans::FIXED);
+    says(
+        &rt,
+        alloc,
+        files,
+        &all,
+        DiffEnd::Worse,
+        plans::UNLOOPING_ALL,
+    )
 }
 
 #[test]

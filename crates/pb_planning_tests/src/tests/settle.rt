@@ -87,7 +87,7 @@ fn goes(rt: &impl Abort, alloc: Global, file: &[u8], rows: &[Row]) -> Result<(),
 /// Checks all rows on the network of a starter plan.
 fn begins(rt: &impl Abort, alloc: Global, topology: Topology, rows: &[Row]) -> Result<(), Fail> {
     let mut file = Vec::new(alloc);
-    assert_eq!(rt; write_plan(alloc, topology, &mut file), Ok(()));
+    assert_eq!(rt; write_plan(alloc, topology, 1, &mut file), Ok(()));
     goes(rt, alloc, file.as_slice(), rows)
 }
 

@@ -250,6 +250,7 @@ const ANY: Asked = Asked {
     kinds: LINKS,
     scope: Scope::All,
     own: false,
+    all: false,
     ticks: 200,
     accepted: &[],
     strict: false,

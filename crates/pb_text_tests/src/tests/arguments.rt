@@ -1,8 +1,8 @@
 //! The arguments of the command line.
 
 use super::asked::all_ask;
-use super::wanted::{HELP, RUN, Row, Run, WRONG, Wanted};
-use pb_cli::InitOptions;
+use super::wanted::{DESCRIBED, Described, HELP, RUN, Row, Run, WRONG, Wanted};
+use pb_cli::InitNetwork;
 use std::test::Fail;
 
 #[test]
@@ -38,6 +38,16 @@ fn checks_one_file(rt: HostRuntime) -> Result<(), Fail> {
         (&["check", "-"], Wanted::Check("-", false)),
         (&["check", "--strict", "a"], Wanted::Check("a", true)),
         (&["check", "a", "--strict"], Wanted::Check("a", true)),
+        (&["check", "--settle", "a"], Wanted::Settled("a", 200)),
+        (
+            &["check", "a", "--settle", "--ticks", "1"],
+            Wanted::Settled("a", 1),
+        ),
+        (&["check", "a", "--ticks", "1"], WRONG),
+        (&["check", "a", "--settle", "--ticks", "0"], WRONG),
+        (&["check", "a", "--settle", "--format=json"], WRONG),
+        (&["check", "--all", "a"], Wanted::CheckAll("a")),
+        (&["check", "a", "--all"], Wanted::CheckAll("a")),
         (&["check", "--strict"], WRONG),
         (&["check"], WRONG),
         (&["check", "a", "b"], WRONG),
@@ -51,6 +61,9 @@ fn steps_by_one_file(rt: HostRuntime) -> Result<(), Fail> {
         (&["step", "metro.toml"], Wanted::Step("metro.toml")),
         (&["step", "a plan.toml"], Wanted::Step("a plan.toml")),
         (&["step", "-"], Wanted::Step("-")),
+        (&["step", "--test", "a"], Wanted::Test("a")),
+        (&["step", "a", "--test"], Wanted::Test("a")),
+        (&["step", "a", "--test=1"], WRONG),
         (&["step"], WRONG),
         (&["step", "a", "b"], WRONG),
         (&["step", "--help"], HELP),
@@ -132,7 +145,6 @@ fn traces_frames_in_one_file(rt: HostRuntime) -> Result<(), Fail> {
             WRONG,
         ),
         (&["trace", "a", "C1", "ff", "--down"], WRONG),
-        (&["trace", "a", "C1"], WRONG),
         (&["trace", "a"], WRONG),
         (&["trace"], WRONG),
         (&["trace", "a", "C1", "ff", "C2", "00"], WRONG),
@@ -140,6 +152,74 @@ fn traces_frames_in_one_file(rt: HostRuntime) -> Result<(), Fail> {
         (&["trace", "a", "C1", "ff", "--then"], WRONG),
         (&["trace", "a", "C1", "ff", "--settle=1"], WRONG),
         (&["trace", "--help"], HELP),
+    ];
+    all_ask(&rt, rt.alloc(), ROWS)
+}
+
+#[test]
+fn traces_frames_that_options_describe(rt: HostRuntime) -> Result<(), Fail> {
+    const ROWS: &[Row] = &[
+        (
+            &["trace", "a", "C1"],
+            Wanted::Described("a", "C1", DESCRIBED),
+        ),
+        (
+            &["trace", "a", "C1", "--to", "C2", "--from=02-00-00-00-00-01"],
+            Wanted::Described(
+                "a",
+                "C1",
+                Described {
+                    to: Some("C2"),
+                    from: Some("02-00-00-00-00-01"),
+                    ..DESCRIBED
+                },
+            ),
+        ),
+        (
+            &["trace", "a", "C1", "--ctag", "5000:9", "--pcp", "7"],
+            Wanted::Described(
+                "a",
+                "C1",
+                Described {
+                    ctag: Some("5000:9"),
+                    pcp: Some(7),
+                    ..DESCRIBED
+                },
+            ),
+        ),
+        (
+            &["trace", "a", "C1", "--bpdu", "--length", "64"],
+            Wanted::Described(
+                "a",
+                "C1",
+                Described {
+                    bpdu: true,
+                    length: Some(64),
+                    ..DESCRIBED
+                },
+            ),
+        ),
+        (
+            &["trace", "a", "C1", "--ethertype", "88cc"],
+            Wanted::Described(
+                "a",
+                "C1",
+                Described {
+                    ethertype: Some("88cc"),
+                    ..DESCRIBED
+                },
+            ),
+        ),
+        (&["trace", "a", "C1", "ff", "--to", "C2"], WRONG),
+        (&["trace", "a", "C1", "ff", "--bpdu"], WRONG),
+        (&["trace", "a", "C1", "--bpdu", "--to", "C2"], WRONG),
+        (
+            &["trace", "a", "C1", "--bpdu", "--ethertype", "0800"],
+            WRONG,
+        ),
+        (&["trace", "a", "C1", "--pcp", "8"], WRONG),
+        (&["trace", "a", "C1", "--length", "13"], WRONG),
+        (&["trace", "a", "C1", "--length", "65536"], WRONG),
     ];
     all_ask(&rt, rt.alloc(), ROWS)
 }
@@ -250,18 +330,46 @@ fn shows_without_further_arguments(rt: HostRuntime) -> Result<(), Fail> {
 #[test]
 fn begins_with_a_network(rt: HostRuntime) -> Result<(), Fail> {
     const ROWS: &[Row] = &[
-        (&["init"], Wanted::Init(InitOptions::Line(2))),
-        (&["init", "--line", "1"], Wanted::Init(InitOptions::Line(1))),
-        (&["init", "--line=32"], Wanted::Init(InitOptions::Line(32))),
-        (&["init", "--ring", "3"], Wanted::Init(InitOptions::Ring(3))),
+        (&["init"], Wanted::Init(InitNetwork::Line(2), 1)),
+        (
+            &["init", "--line", "1"],
+            Wanted::Init(InitNetwork::Line(1), 1),
+        ),
+        (
+            &["init", "--line=32"],
+            Wanted::Init(InitNetwork::Line(32), 1),
+        ),
+        (
+            &["init", "--ring", "3"],
+            Wanted::Init(InitNetwork::Ring(3), 1),
+        ),
         (
             &["init", "--ring", "32"],
-            Wanted::Init(InitOptions::Ring(32)),
+            Wanted::Init(InitNetwork::Ring(32), 1),
         ),
-        (&["init", "--star", "2"], Wanted::Init(InitOptions::Star(2))),
+        (
+            &["init", "--star", "2"],
+            Wanted::Init(InitNetwork::Star(2), 1),
+        ),
         (
             &["init", "--star", "17"],
-            Wanted::Init(InitOptions::Star(17)),
+            Wanted::Init(InitNetwork::Star(17), 1),
+        ),
+        (
+            &["init", "--dual-homed", "2"],
+            Wanted::Init(InitNetwork::DualHomed(2), 1),
+        ),
+        (
+            &["init", "--services", "4", "--dual-homed", "24"],
+            Wanted::Init(InitNetwork::DualHomed(24), 4),
+        ),
+        (
+            &["init", "--services", "1"],
+            Wanted::Init(InitNetwork::Line(2), 1),
+        ),
+        (
+            &["init", "--ring=3", "--services=2"],
+            Wanted::Init(InitNetwork::Ring(3), 2),
         ),
         (&["init", "--line", "0"], WRONG),
         (&["init", "--line", "33"], WRONG),
@@ -274,6 +382,13 @@ fn begins_with_a_network(rt: HostRuntime) -> Result<(), Fail> {
         (&["init", "--ring", "3", "--line", "3"], WRONG),
         (&["init", "--ring", "3", "--star", "3"], WRONG),
         (&["init", "--line", "3", "--star", "3"], WRONG),
+        (&["init", "--dual-homed", "3", "--ring", "3"], WRONG),
+        (&["init", "--dual-homed", "3", "--line", "3"], WRONG),
+        (&["init", "--dual-homed", "3", "--star", "3"], WRONG),
+        (&["init", "--dual-homed", "1"], WRONG),
+        (&["init", "--dual-homed", "25"], WRONG),
+        (&["init", "--services", "0"], WRONG),
+        (&["init", "--services", "5"], WRONG),
         (&["init", "--ring", "3", "--ring", "4"], WRONG),
         (&["init", "3"], WRONG),
         (&["init", "--help"], HELP),
@@ -318,6 +433,13 @@ fn refuses_other_arguments_and_helps(rt: HostRuntime) -> Result<(), Fail> {
         (&["show", "3"], WRONG),
         (&["show", "--help"], HELP),
         (&["--help"], HELP),
+        (&["help"], HELP),
+        (&["help", "check"], HELP),
+        (&["help", "plan"], HELP),
+        (&["plan", "--help"], HELP),
+        (&["plan"], WRONG),
+        (&["plan", "a"], WRONG),
+        (&["help", "plans"], WRONG),
         (&["--version"], HELP),
         (&["flat", "--help"], HELP),
     ];

@@ -1,10 +1,10 @@
 //! The harness: it parses the arguments of a command line and checks the command.
 
-use super::wanted::{Change, Look, Of, Picture, Row, Run, Wanted};
+use super::wanted::{Change, Described, Look, Of, Picture, Row, Run, Wanted};
 use pb_cli::{
     CheckOptions, CommandLine, ControlOptions, DiffOptions, DrawOptions, ReportFormat,
-    ReportOptions, RunOptions, SurviveOptions, SurviveScope, TraceEntry, TraceOptions, TreeOptions,
-    command_line_of,
+    ReportOptions, RunOptions, SurviveOptions, SurviveScope, TraceEntry, TraceFrame, TraceOptions,
+    TreeOptions, command_line_of,
 };
 use std::alloc::{AllocError, Global};
 use std::process::Abort;
@@ -63,14 +63,27 @@ fn are_entries(told: &[TraceEntry], wanted: &[(&str, &str)]) -> bool {
     told.len() == wanted.len()
 }
 
-/// Returns whether it is a report as text over this plan file.
-fn is_report(told: &ReportOptions, path: &str) -> bool {
-    told.path.as_str() == path && told.format == ReportFormat::Text
+/// Returns whether it is a report as text over this plan file, of a test or not.
+fn is_report(told: &ReportOptions, path: &str, test: bool) -> bool {
+    told.path.as_str() == path && told.test == test && told.format == ReportFormat::Text
 }
 
 /// Returns whether it is a check of this plan file with a report as text.
-fn is_check(told: &CheckOptions, path: &str, strict: bool) -> bool {
-    told.path.as_str() == path && told.strict == strict && told.format == ReportFormat::Text
+fn is_check(told: &CheckOptions, path: &str, strict: bool, settle: Option<u32>) -> bool {
+    told.path.as_str() == path
+        && told.strict == strict
+        && told.settle == settle
+        && !told.all
+        && told.format == ReportFormat::Text
+}
+
+/// Returns whether it is a check of this plan file that reports all errors.
+fn is_check_of_all(told: &CheckOptions, path: &str) -> bool {
+    told.path.as_str() == path
+        && !told.strict
+        && told.settle == None
+        && told.all
+        && told.format == ReportFormat::Text
 }
 
 /// Returns whether these are the options of the run.
@@ -104,8 +117,32 @@ fn is_trace(
     told.path.as_str() == path
         && are_entries(&told.entries, frames)
         && are_texts(&told.downs, downs)
+        && told.frame.is_none()
         && told.settle == settle
         && told.format == ReportFormat::Text
+}
+
+/// Returns whether this is the described frame.
+fn is_frame(told: &TraceFrame, wanted: &Described) -> bool {
+    is_text(told.to.as_ref(), wanted.to)
+        && is_text(told.from.as_ref(), wanted.from)
+        && is_text(told.ctag.as_ref(), wanted.ctag)
+        && told.pcp == wanted.pcp
+        && told.bpdu == wanted.bpdu
+        && is_text(told.ethertype.as_ref(), wanted.ethertype)
+        && told.length == wanted.length
+}
+
+/// Returns whether these are the options of `trace` with a frame that options describe.
+fn is_described(told: &TraceOptions, path: &str, port: &str, wanted: &Described) -> bool {
+    match &told.frame {
+        Some(frame) => {
+            told.path.as_str() == path
+                && are_entries(&told.entries, &[(port, "")])
+                && is_frame(frame, wanted)
+        }
+        None => false,
+    }
 }
 
 /// Returns whether these are the services of the survey.
@@ -128,6 +165,7 @@ fn is_look(told: &SurviveOptions, look: &Look) -> bool {
         && is_text(told.accept.as_ref(), look.accept)
         && told.strict == look.strict
         && told.prints_accept == look.prints_accept
+        && told.all_failures == look.all_failures
         && told.ticks == look.ticks
         && told.format == ReportFormat::Text
 }
@@ -139,6 +177,7 @@ fn is_change(told: &DiffOptions, change: &Change) -> bool {
         && told.pairs == change.pairs
         && told.bridges == change.bridges
         && is_text(told.service.as_ref(), change.service)
+        && told.all_failures == change.all_failures
         && told.ticks == change.ticks
         && told.format == ReportFormat::Text
 }
@@ -180,8 +219,15 @@ fn format_of(line: &CommandLine) -> Option<ReportFormat> {
 fn is_so(line: &CommandLine, wanted: &Wanted) -> bool {
     match (wanted, line) {
         (Wanted::Flat(ports), CommandLine::Flat(told)) => told == ports,
-        (Wanted::Check(path, strict), CommandLine::Check(told)) => is_check(told, path, *strict),
-        (Wanted::Step(path), CommandLine::Step(told)) => is_report(told, path),
+        (Wanted::Check(path, strict), CommandLine::Check(told)) => is_check(
+            told, path, *strict, None,
+        ),
+        (Wanted::Settled(path, ticks), CommandLine::Check(told)) => {
+            is_check(told, path, false, Some(*ticks))
+        }
+        (Wanted::CheckAll(path), CommandLine::Check(told)) => is_check_of_all(told, path),
+        (Wanted::Step(path), CommandLine::Step(told)) => is_report(told, path, false),
+        (Wanted::Test(path), CommandLine::Step(told)) => is_report(told, path, true),
         (Wanted::Run(run), CommandLine::Run(told)) => is_run(told, run),
         (Wanted::Tree(path, downs, ticks), CommandLine::Tree(told)) => is_tree(
             told, path, downs, *ticks,
@@ -189,11 +235,16 @@ fn is_so(line: &CommandLine, wanted: &Wanted) -> bool {
         (Wanted::Trace(path, frames, downs, settle), CommandLine::Trace(told)) => {
             is_trace(told, path, frames, downs, *settle)
         }
+        (Wanted::Described(path, port, frame), CommandLine::Trace(told)) => {
+            is_described(told, path, port, frame)
+        }
         (Wanted::Survive(look), CommandLine::Survive(told)) => is_look(told, look),
         (Wanted::Diff(change), CommandLine::Diff(told)) => is_change(told, change),
         (Wanted::Draw(picture), CommandLine::Draw(told)) => is_picture(told, picture),
         (Wanted::Show, CommandLine::Show) => true,
-        (Wanted::Init(network), CommandLine::Init(told)) => told == network,
+        (Wanted::Init(network, services), CommandLine::Init(told)) => {
+            told.network == *network && told.services == *services
+        }
         (Wanted::Control(path, arguments), CommandLine::Control(told)) => {
             is_control(told, path, arguments)
         }

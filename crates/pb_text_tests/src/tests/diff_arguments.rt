@@ -11,6 +11,7 @@ const LINKS: Change = Change {
     pairs: false,
     bridges: false,
     service: None,
+    all_failures: false,
     ticks: 200,
 };
 
@@ -44,6 +45,13 @@ const CHANGES: &[Row] = &[
         Wanted::Diff(Change {
             old: "b",
             new: "a",
+            ..LINKS
+        }),
+    ),
+    (
+        &["diff", "a", "b", "--all-failures"],
+        Wanted::Diff(Change {
+            all_failures: true,
             ..LINKS
         }),
     ),

@@ -14,6 +14,7 @@ const LINKS: Look = Look {
     accept: None,
     strict: false,
     prints_accept: false,
+    all_failures: false,
     ticks: 200,
 };
 
@@ -89,7 +90,15 @@ const LOOKS: &[Row] = &[
             ..LINKS
         }),
     ),
+    (
+        &["survive", "--all-failures", "a"],
+        Wanted::Survive(Look {
+            all_failures: true,
+            ..LINKS
+        }),
+    ),
     (&["survive", "a", "--accept"], WRONG),
+    (&["survive", "a", "--print-accept", "--all-failures"], WRONG),
     (
         &["survive", "a", "--print-accept", "--format", "json"],
         WRONG,

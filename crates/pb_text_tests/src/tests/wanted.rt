@@ -1,6 +1,6 @@
 //! The commands that arguments ask for.
 
-use pb_cli::{InitOptions, PictureFormat, ReportFormat};
+use pb_cli::{InitNetwork, PictureFormat, ReportFormat};
 
 /// A run of a plan file with its options. Its report is a text.
 #[derive(Clone, Copy)]
@@ -54,6 +54,8 @@ pub(super) struct Look {
     pub(super) strict: bool,
     /// Whether tables are printed in place of the report.
     pub(super) prints_accept: bool,
+    /// Whether harmless failures are reported too.
+    pub(super) all_failures: bool,
     pub(super) ticks: u32,
 }
 
@@ -68,6 +70,8 @@ pub(super) struct Change {
     pub(super) bridges: bool,
     /// The service that is compared, or `None` for all.
     pub(super) service: Option<&'static str>,
+    /// Whether failures that change nothing are reported too.
+    pub(super) all_failures: bool,
     pub(super) ticks: u32,
 }
 
@@ -92,7 +96,13 @@ pub(super) enum Wanted {
     Flat(u8),
     /// A plan file, and whether warnings have an exit status of their own.
     Check(&'static str, bool),
+    /// `check --settle`: a path, and the most ticks.
+    Settled(&'static str, u32),
+    /// `check --all` over this plan file.
+    CheckAll(&'static str),
     Step(&'static str),
+    /// `step --test`.
+    Test(&'static str),
     Run(Run),
     /// A plan file, what is disabled, and the maximum number of ticks.
     Tree(&'static str, &'static [&'static str], u32),
@@ -105,10 +115,13 @@ pub(super) enum Wanted {
         Option<u32>,
     ),
     Survive(Look),
+    /// `trace` with a frame that options describe: a path, a port and the frame.
+    Described(&'static str, &'static str, Described),
     Diff(Change),
     Draw(Picture),
     Show,
-    Init(InitOptions),
+    /// The network of a starter plan, and the number of services.
+    Init(InitNetwork, u8),
     /// The path of the control socket, and the arguments of its commands.
     Control(&'static str, &'static [&'static str]),
     /// A report in this format.
@@ -127,3 +140,26 @@ pub(super) const HELP: Wanted = Wanted::Nothing { wrong: false };
 
 /// The arguments after the program's name, and the command that they ask for.
 pub(super) type Row = (&'static [&'static str], Wanted);
+
+/// The frame that options of `trace` describe.
+#[derive(Clone, Copy)]
+pub(super) struct Described {
+    pub(super) to: Option<&'static str>,
+    pub(super) from: Option<&'static str>,
+    pub(super) ctag: Option<&'static str>,
+    pub(super) pcp: Option<u8>,
+    pub(super) bpdu: bool,
+    pub(super) ethertype: Option<&'static str>,
+    pub(super) length: Option<u32>,
+}
+
+/// A frame without options.
+pub(super) const DESCRIBED: Described = Described {
+    to: None,
+    from: None,
+    ctag: None,
+    pcp: None,
+    bpdu: false,
+    ethertype: None,
+    length: None,
+};

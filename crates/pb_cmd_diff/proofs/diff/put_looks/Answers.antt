@@ -30,7 +30,8 @@ returns g c =
             effects)
             olds (subst (λ cs. AreEffects old new c.as_slice-2.result.now asked.ticks most_events cs effects) cases
             c.in_ok-effects.ensures);
-        compared = subst (λ es. IsCompared old new asked.ticks most_events base es c.in_ok-put_effects.field-0 told.0)
+        compared = subst (λ es. IsCompared old new asked.ticks most_events asked.all base es
+            c.in_ok-put_effects.field-0 told.0)
             c.as_slice-5.ensures.value told.2;
       },
     )

@@ -175,6 +175,17 @@ service red: link L2 down: no longer reach each other: a b | c
 better: 0 of 3 failures; worse: 2 of 3 failures; with nothing down: better
 ";
 
+/// The same with a line for each failure.
+pub(super) const UNLOOPING_ALL: &str = "link L3: removed
+service red: nothing down: no longer forms a forwarding loop
+service red: link L1 down: no longer reach each other: a | b c
+service red: link L2 down: no longer reach each other: a b | c
+link L1 down: worse
+link L2 down: worse
+link L3 down: no change
+better: 0 of 3 failures; worse: 2 of 3 failures; with nothing down: better
+";
+
 /// The same with other values, and in another order.
 pub(super) const ALTERED: &str =
     "network = { queues = 'class', ageing = 400, ring = 32, steps = 1000 }

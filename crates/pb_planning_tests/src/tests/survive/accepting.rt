@@ -60,6 +60,7 @@ struct Row<'a> {
     scope: Scope<'a>,
     strict: bool,
     as_tables: bool,
+    all: bool,
     status: u8,
     text: &'a str,
 }
@@ -78,6 +79,7 @@ fn says<R: Abort + Threads + Sync>(rt: &R, alloc: Global, row: &Row<'_>) -> Resu
         accepted: accepted.as_slice(),
         strict: row.strict,
         as_tables: row.as_tables,
+        all: row.all,
         ..ANY
     };
     let mut output = Vec::new(alloc);
@@ -98,6 +100,7 @@ fn over<'a>(draft: &'a Draft<'a>, accept: &'a str, status: u8, text: &'a str) ->
         scope: Scope::All,
         strict: false,
         as_tables: false,
+        all: false,
         status,
         text,
     }
@@ -114,6 +117,23 @@ accepted link L4 down: settled ticks 2 forest yes\n\
 checked 4 links\n\
 3 of 4 failures disconnect nothing\n\
 converges within 3 ticks\n\
+1 of 4 failures are accepted\n\
+survives every failure that is not accepted\n";
+
+/// The same with harmless failures.
+const ALL: &str = "\
+nothing down: settled ticks 2 forest yes\n\
+\x20 service red: C1 C2\n\
+\x20 service blue: C3 C4\n\
+healthy with nothing down\n\
+link L1 down: settled ticks 2 forest yes\n\
+link L2 down: settled ticks 2 forest yes\n\
+link L3 down: settled ticks 2 forest yes\n\
+accepted link L4 down: settled ticks 2 forest yes\n\
+\x20 service red: C1 | C2\n\
+checked 4 links\n\
+3 of 4 failures disconnect nothing\n\
+converges within 2 ticks\n\
 1 of 4 failures are accepted\n\
 survives every failure that is not accepted\n";
 
@@ -211,6 +231,15 @@ fn what_was_found_is_printed_as_tables(rt: HostRuntime) -> Result<(), Fail> {
         ..found
     };
     says(&rt, alloc, &accepted)
+}
+
+#[test]
+fn harmless_failures_are_listed_on_request(rt: HostRuntime) -> Result<(), Fail> {
+    let all = Row {
+        all: true,
+        ..over(&LEAF, "[[accept]]\nlink = \"L4\"\n", 0, ALL)
+    };
+    says(&rt, rt.alloc(), &all)
 }
 
 /// The bridge `B1` at which `L4` ends fails.

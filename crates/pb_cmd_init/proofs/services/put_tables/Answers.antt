@@ -1,0 +1,10 @@
+use Rattle.std.proofs.Common.{◌+◌, string_bytes}
+use Rattle.pb_cmd_init.specs.PlanTexts.{service_text}
+use Rattle.pb_frame.proofs.TextLemmas.{numbers_more}
+use Rattle.pb_cmd_init.proofs.services.put_tables.Goals as goal
+
+pub loop-before-preserved : goal.loop-before-preserved
+loop-before-preserved c =
+    numbers_more service_text (c.loop-before.before + 1) c.loop-before.before _
+    (string_bytes c.loop-before.out) _ _
+    c.loop-before-test.true c.in_ok-put_service.ensures c.loop-before.invariant

@@ -1,0 +1,110 @@
+//! The printed form of an error.
+
+ghost use Rattle.std.specs.Prelude.{◌≡◌, ◌++◌, string_bytes, option_copied, OnOk};
+ghost use Rattle.std.specs.List.{flat_map};
+ghost use Rattle.pb_diagnostics.specs.Texts.{pad, carets, location, excerpt, hint_line, diagnostic_text};
+
+use crate::place::{Place, is_first_octet};
+use std::alloc::AllocError;
+
+/// An error in a file.
+#[derive(Drop)]
+pub struct Diagnostic {
+    /// Its place, if it has one.
+    pub place: Option<Place>,
+    /// What is wrong.
+    pub message: String,
+    /// What was probably meant, or where the other part is.
+    pub hint: Option<String>,
+}
+
+/// Appends a space for each character of a text, and a tab for each tab.
+fn put_padding(out: &mut String, text: &[u8]) -> Result<(), AllocError>
+    ensures { OnOk result (string_bytes out.new ≡ string_bytes out.old ++ flat_map pad text.now) }
+{
+    for octet in text {
+        if *octet == b'\t' {
+            out.push_str("\t")?;
+        } else if is_first_octet(*octet) {
+            out.push_str(" ")?;
+        }
+    }
+    Ok(())
+}
+
+/// Appends so many carets.
+#[tactic(auto, using(crate::proofs::CaretLemmas::one_more))]
+fn put_carets(out: &mut String, count: usize) -> Result<(), AllocError>
+    ensures { OnOk result (string_bytes out.new ≡ string_bytes out.old ++ carets count) }
+{
+    for _put in 0..count {
+        out.push_str("^")?;
+    }
+    Ok(())
+}
+
+/// Appends the path of a file with line and column, if there are some.
+fn put_location(out: &mut String, path: &str, place: Option<&Place>) -> Result<(), AllocError>
+    ensures { OnOk result (string_bytes out.new ≡ string_bytes out.old ++ location path.now (option_copied place.entry)) }
+{
+    match place {
+        Some(place) => {
+            let line = place.line;
+            let column = place.column;
+            write!(out, "{path}:{line}:{column}: ")?;
+        }
+        None => write!(out, "{path}: ")?,
+    }
+    Ok(())
+}
+
+/// Appends the line of a place, with carets under its octets. Nothing if the line has no text.
+fn put_excerpt(out: &mut String, place: &Place) -> Result<(), AllocError>
+    ensures { OnOk result (string_bytes out.new ≡ string_bytes out.old ++ excerpt place.now) }
+{
+    let text = place.text.as_str();
+    if text.is_empty() {
+        return Ok(());
+    }
+    write!(out, "    {text}\n    ")?;
+    let before = place.column.saturating_sub(1).min(text.len());
+    put_padding(out, &text.as_bytes()[..before])?;
+    put_carets(out, place.width)?;
+    out.push_str("\n")?;
+    Ok(())
+}
+
+/// Appends the line of a hint.
+fn put_hint(out: &mut String, hint: &str) -> Result<(), AllocError>
+    ensures { OnOk result (string_bytes out.new ≡ string_bytes out.old ++ hint_line hint.now) }
+{
+    writeln!(out, "hint: {hint}")?;
+    Ok(())
+}
+
+/// Appends the text of an error in the file at a path.
+///
+/// The first line is `PATH:LINE:COLUMN: MESSAGE`. The next ones are the line of the file, and carets under its octets;
+/// both are indented by four spaces. The last one is `hint: HINT`, if there is a hint.
+///
+/// # Errors
+///
+/// `AllocError` if an allocation failed.
+pub fn put_diagnostic(
+    out: &mut String,
+    path: &str,
+    diagnostic: &Diagnostic,
+) -> Result<(), AllocError>
+    ensures { OnOk result (string_bytes out.new ≡ string_bytes out.old ++ diagnostic_text path.now diagnostic.now) }
+{
+    put_location(out, path, diagnostic.place.as_ref())?;
+    out.push_str(diagnostic.message.as_str())?;
+    out.push_str("\n")?;
+    if let Some(place) = &diagnostic.place {
+        put_excerpt(out, place)?;
+    }
+    if let Some(hint) = &diagnostic.hint {
+        put_hint(out, hint.as_str())?;
+    }
+    Ok(())
+}

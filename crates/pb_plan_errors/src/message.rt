@@ -1,0 +1,183 @@
+//! The messages of errors.
+
+ghost use Rattle.std.specs.Prelude.{◌≡◌, ◌++◌, List, ℕ, string_bytes, OnOk};
+ghost use Rattle.toml.specs.View.{table_view};
+ghost use Rattle.pb_plan_errors.specs.Messages.{named, placed, is_not, name_at, row_subject, subject, IsMessage};
+
+use crate::finding::{Finding, most_of};
+use crate::names::named_by;
+use crate::path::word_and_key;
+use crate::row::{integer_at, text_at};
+use crate::rule::rule_of;
+use pb_diagnostics::{Site, row_at, table_at};
+use pb_frame::Memory;
+use pb_lan::is_name;
+use pb_service::PlanFault;
+use toml::Table;
+
+/// Appends the kind and the name of a table.
+fn put_named(out: &mut String, word: &str, name: &str) -> Result<(), Memory>
+    ensures { OnOk result (string_bytes out.new ≡ string_bytes out.old ++ named word.now name.now) }
+{
+    write!(out, "{word} \"{name}\": ")?;
+    Ok(())
+}
+
+/// Appends the kind and the index of a table, counted from 0.
+fn put_placed(out: &mut String, word: &str, index: usize) -> Result<(), Memory>
+    ensures { OnOk result (string_bytes out.new ≡ string_bytes out.old ++ placed word.now index) }
+{
+    write!(out, "{word}[{index}]: ")?;
+    Ok(())
+}
+
+/// Appends a table of an array: by its name if it has one, else by its index.
+fn put_row(out: &mut String, document: &Table, word: &str, index: usize) -> Result<(), Memory>
+    ensures { OnOk result (string_bytes out.new ≡ string_bytes out.old
+        ++ row_subject word.now index (name_at (table_view document.now) word.now index)) }
+{
+    let name = match row_at(document, word, index) {
+        Some(row) => text_at(row, "name"),
+        None => "",
+    };
+    if is_name(name.as_bytes()) {
+        put_named(out, word, name)
+    } else {
+        put_placed(out, word, index)
+    }
+}
+
+/// Appends the table that an error is about. Nothing for a key at the top.
+fn put_subject(out: &mut String, document: &Table, site: Site<'_>) -> Result<(), Memory>
+    ensures { OnOk result (string_bytes out.new ≡ string_bytes out.old ++ subject (table_view document.now) site.entry) }
+{
+    match site {
+        Site::Key(_) | Site::Row(_, _) => Ok(()),
+        Site::TableKey(word, _) => {
+            write!(out, "{word}: ")?;
+            Ok(())
+        }
+        Site::RowKey(word, index, _) => put_row(out, document, word, index),
+    }
+}
+
+/// Appends that the value of a key is not what it must be. `value` is the text of the value in the file, or the empty
+/// text.
+fn put_is_not(out: &mut String, key: &str, value: &str, wanted: &str) -> Result<(), Memory>
+    ensures { OnOk result (string_bytes out.new ≡ string_bytes out.old ++ is_not key.now value.now wanted.now) }
+{
+    if value.is_empty() {
+        write!(out, "{key} is not {wanted}")?;
+    } else {
+        write!(out, "{key} {value} is not {wanted}")?;
+    }
+    Ok(())
+}
+
+/// Returns the table of a key, if it is there.
+fn table_of_key<'a>(document: &'a Table, site: Site<'_>) -> Option<&'a Table> {
+    match site {
+        Site::Key(_) | Site::Row(_, _) => None,
+        Site::TableKey(word, _) => table_at(document, word),
+        Site::RowKey(word, index, _) => row_at(document, word, index),
+    }
+}
+
+/// Returns what a value contradicts, if it would be allowed by itself.
+fn conflict_of(word: &str, key: &str, row: &Table) -> Option<&'static str> {
+    let number = integer_at(row, key);
+    match (word, key) {
+        ("network", "tick_ms") if 0 <= number && number <= 60_000 => {
+            Some("allowed beside tick_every")
+        }
+        ("network", "hold") if 0 <= number && number <= 1_000_000 => {
+            Some("allowed without tick_ms or tick_every")
+        }
+        ("network", "prompt") => Some("allowed without spanning = \"rstp\""),
+        ("event", "port") if 1 <= number && number <= 16 => Some("an end of a link"),
+        ("port", "stamp") if text_at(row, key) == "time" => Some("allowed without tick_ms"),
+        _ => None,
+    }
+}
+
+/// Returns what the value of a key must be.
+fn range_of(document: &Table, site: Site<'_>) -> &'static str {
+    let (word, key) = word_and_key(site);
+    if let Some(row) = table_of_key(document, site) {
+        if let Some(conflict) = conflict_of(word, key, row) {
+            return conflict;
+        }
+    }
+    match rule_of(word, key) {
+        Some(rule) => rule.range,
+        None => "allowed",
+    }
+}
+
+/// Returns the TOML type that the value of a key must have.
+fn kind_of(site: Site<'_>) -> &'static str {
+    let (word, key) = word_and_key(site);
+    match rule_of(word, key) {
+        Some(rule) => rule.kind,
+        None => "allowed",
+    }
+}
+
+/// Appends that a local port is used twice.
+fn put_link_end(out: &mut String, document: &Table, site: Site<'_>) -> Result<(), Memory> {
+    let (_, key) = word_and_key(site);
+    let bridge_key = match key {
+        "a_port" => "a",
+        "b_port" => "b",
+        _ => "bridge",
+    };
+    let Some(row) = table_of_key(document, site) else {
+        return Ok(());
+    };
+    let port = integer_at(row, key);
+    let bridge = text_at(row, bridge_key);
+    write!(out, "port {port} of bridge \"{bridge}\" is used twice")?;
+    Ok(())
+}
+
+/// Appends what is wrong at a key or table. `value` is the text of the value in the file, or the empty text.
+///
+/// # Errors
+///
+/// `Memory` if an allocation failed.
+pub(crate) fn put_message(
+    out: &mut String,
+    document: &Table,
+    fault: &PlanFault,
+    finding: &Finding<'_>,
+    value: &str,
+) -> Result<(), Memory>
+    ensures { OnOk result ((text : List ℕ) × (string_bytes out.new ≡ string_bytes out.old ++ text)
+        × IsMessage (table_view document.now) fault.now finding.now.about value.now text) }
+{
+    let site = finding.about;
+    let (word, key) = word_and_key(site);
+    put_subject(out, document, site)?;
+    match fault {
+        PlanFault::Missing(_) => write!(out, "{key} is missing")?,
+        PlanFault::Kind(_) => put_is_not(out, key, value, kind_of(site))?,
+        PlanFault::Range(_) => put_is_not(out, key, value, range_of(document, site))?,
+        PlanFault::Unknown(_) => write!(out, "unknown key {key}")?,
+        PlanFault::Twice(name) => {
+            let name = name.as_str();
+            write!(out, "another {word} has the {key} {name}")?;
+        }
+        PlanFault::NoSuch(name) => {
+            let part = named_by(key);
+            let name = name.as_str();
+            write!(out, "no {part} is named \"{name}\"")?;
+        }
+        PlanFault::LinkEnd => put_link_end(out, document, site)?,
+        PlanFault::TooMany => {
+            let most = most_of(word);
+            write!(out, "more than {most} tables [[{word}]]")?;
+        }
+        PlanFault::Utf8 | PlanFault::Toml | PlanFault::Memory => write!(out, "{fault}")?,
+    }
+    Ok(())
+}

@@ -1,0 +1,55 @@
+//! The values of a table.
+
+ghost use Rattle.std.specs.Prelude.{◌≡◌, option_map};
+ghost use Rattle.toml.specs.Data.{get_member};
+ghost use Rattle.toml.specs.View.{view, table_view};
+ghost use Rattle.pb_service.specs.Tables.{text_at};
+ghost use Rattle.pb_service.specs.Values.{text_in};
+
+use toml::{Table, Value};
+
+/// Returns the value at a key, if there is one.
+fn value_at<'a>(table: &'a Table, key: &str) -> Option<&'a Value>
+    ensures { option_map (λ v. view v.now) result ≡ get_member key.now (table_view table.now) }
+{
+    table.get(key)
+}
+
+/// Returns the text of a value, or the empty text if it isn't a text.
+fn text_in(value: &Value) -> &str
+    ensures { result.now ≡ text_in (view value.now) }
+{
+    match value.as_str() {
+        Some(text) => text,
+        None => "",
+    }
+}
+
+/// Returns the text at a key, or the empty text if there is none.
+pub(crate) fn text_at<'a>(row: &'a Table, key: &str) -> &'a str
+    ensures { result.now ≡ text_at (table_view row.now) key.now }
+{
+    match value_at(row, key) {
+        Some(value) => text_in(value),
+        None => "",
+    }
+}
+
+/// Returns the integer at a key, or 0 if there is none.
+pub(crate) fn integer_at(row: &Table, key: &str) -> i64 {
+    match row.get(key) {
+        Some(value) => value.as_integer().unwrap_or(0),
+        None => 0,
+    }
+}
+
+/// Returns the items of the array at a key, or no items if there is none.
+pub(crate) fn items_at<'a>(row: &'a Table, key: &str) -> &'a [Value] {
+    match row.get(key) {
+        Some(value) => match value.as_array() {
+            Some(items) => items.as_slice(),
+            None => &[],
+        },
+        None => &[],
+    }
+}
