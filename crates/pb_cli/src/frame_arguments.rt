@@ -38,8 +38,8 @@ pub(crate) const FROM: Argument = Argument {
 /// The argument for the customer's tag.
 pub(crate) const CTAG: Argument = Argument {
     name: "ctag",
-    value: "VID[:PCP]",
-    help: "Customer's tag; PCP is 0 if left out [default: no tag] [range: VID 0-4094, PCP 0-7]",
+    value: "TAG",
+    help: "Customer's tag, VID or VID:PCP [default: no tag, PCP 0] [range: VID 0-4094, PCP 0-7]",
     takes: Takes::Text,
     excludes: &["HEX"],
 };
