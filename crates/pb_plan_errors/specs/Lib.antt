@@ -1,2 +1,9 @@
+pub mod Rows
+pub mod Paths
+pub mod Rules
 pub mod Messages
+pub mod Findings
+pub mod Uses
+pub mod Hints
 pub mod Errors
+pub mod Repairs

@@ -1,10 +1,16 @@
 //! The messages of errors.
 
-ghost use Rattle.std.specs.Prelude.{◌≡◌, ◌++◌, List, ℕ, string_bytes, OnOk};
+ghost use Rattle.std.specs.Prelude.{◌≡◌, ◌++◌, List, ℕ, string_bytes, option_map, IfSome, OnOk, Contains};
 ghost use Rattle.toml.specs.View.{table_view};
-ghost use Rattle.pb_plan_errors.specs.Messages.{named, placed, is_not, name_at, row_subject, subject, IsMessage};
+ghost use Rattle.pb_service.specs.Tables.{is_one_of};
+ghost use Rattle.pb_plan_errors.specs.Messages.{named, placed, is_not, row_subject, subject, shared, conflicts};
+ghost use Rattle.pb_plan_errors.specs.Messages.{table_of_key, IsWanted, IsWrong, IsMessage};
+ghost use Rattle.pb_plan_errors.specs.Paths.{word_of, key_of};
+ghost use Rattle.pb_plan_errors.specs.Rows.{name_at};
+ghost use Rattle.pb_plan_errors.specs.Rules.{kind_of};
 
-use crate::finding::{Finding, most_of};
+use crate::ends::bridge_key;
+use crate::finding::most_of;
 use crate::names::named_by;
 use crate::path::word_and_key;
 use crate::row::{integer_at, text_at};
@@ -75,7 +81,9 @@ fn put_is_not(out: &mut String, key: &str, value: &str, wanted: &str) -> Result<
 }
 
 /// Returns the table of a key, if it is there.
-fn table_of_key<'a>(document: &'a Table, site: Site<'_>) -> Option<&'a Table> {
+fn table_of_key<'a>(document: &'a Table, site: Site<'_>) -> Option<&'a Table>
+    ensures { option_map (λ t. table_view t.now) result ≡ table_of_key (table_view document.now) site.entry }
+{
     match site {
         Site::Key(_) | Site::Row(_, _) => None,
         Site::TableKey(word, _) => table_at(document, word),
@@ -84,7 +92,9 @@ fn table_of_key<'a>(document: &'a Table, site: Site<'_>) -> Option<&'a Table> {
 }
 
 /// Returns what a value contradicts, if it would be allowed by itself.
-fn conflict_of(word: &str, key: &str, row: &Table) -> Option<&'static str> {
+fn conflict_of(word: &str, key: &str, row: &Table) -> Option<&'static str>
+    ensures { IfSome result (λ text. is_one_of conflicts text.now ≡ Bool.true) }
+{
     let number = integer_at(row, key);
     match (word, key) {
         ("network", "tick_ms") if 0 <= number && number <= 60_000 => {
@@ -101,7 +111,9 @@ fn conflict_of(word: &str, key: &str, row: &Table) -> Option<&'static str> {
 }
 
 /// Returns what the value of a key must be.
-fn range_of(document: &Table, site: Site<'_>) -> &'static str {
+fn range_of(document: &Table, site: Site<'_>) -> &'static str
+    ensures { IsWanted (word_of site.entry) (key_of site.entry) result.now }
+{
     let (word, key) = word_and_key(site);
     if let Some(row) = table_of_key(document, site) {
         if let Some(conflict) = conflict_of(word, key, row) {
@@ -115,7 +127,9 @@ fn range_of(document: &Table, site: Site<'_>) -> &'static str {
 }
 
 /// Returns the TOML type that the value of a key must have.
-fn kind_of(site: Site<'_>) -> &'static str {
+fn kind_of(site: Site<'_>) -> &'static str
+    ensures { result.now ≡ kind_of (word_of site.entry) (key_of site.entry) }
+{
     let (word, key) = word_and_key(site);
     match rule_of(word, key) {
         Some(rule) => rule.kind,
@@ -124,40 +138,33 @@ fn kind_of(site: Site<'_>) -> &'static str {
 }
 
 /// Appends that a local port is used twice.
-fn put_link_end(out: &mut String, document: &Table, site: Site<'_>) -> Result<(), Memory> {
-    let (_, key) = word_and_key(site);
-    let bridge_key = match key {
-        "a_port" => "a",
-        "b_port" => "b",
-        _ => "bridge",
-    };
+fn put_shared(out: &mut String, document: &Table, site: Site<'_>) -> Result<(), Memory>
+    ensures { OnOk result (string_bytes out.new ≡ string_bytes out.old
+        ++ shared (table_of_key (table_view document.now) site.entry) (key_of site.entry)) }
+{
     let Some(row) = table_of_key(document, site) else {
         return Ok(());
     };
+    let (_, key) = word_and_key(site);
     let port = integer_at(row, key);
-    let bridge = text_at(row, bridge_key);
+    let bridge = text_at(row, bridge_key(key));
     write!(out, "port {port} of bridge \"{bridge}\" is used twice")?;
     Ok(())
 }
 
-/// Appends what is wrong at a key or table. `value` is the text of the value in the file, or the empty text.
-///
-/// # Errors
-///
-/// `Memory` if an allocation failed.
-pub(crate) fn put_message(
+/// Appends what is wrong at a key or table, without the table. `value` is the text of the value in the file, or the
+/// empty text.
+fn put_wrong(
     out: &mut String,
     document: &Table,
     fault: &PlanFault,
-    finding: &Finding<'_>,
+    site: Site<'_>,
     value: &str,
 ) -> Result<(), Memory>
     ensures { OnOk result ((text : List ℕ) × (string_bytes out.new ≡ string_bytes out.old ++ text)
-        × IsMessage (table_view document.now) fault.now finding.now.about value.now text) }
+        × IsWrong (table_view document.now) fault.now site.entry value.now text) }
 {
-    let site = finding.about;
     let (word, key) = word_and_key(site);
-    put_subject(out, document, site)?;
     match fault {
         PlanFault::Missing(_) => write!(out, "{key} is missing")?,
         PlanFault::Kind(_) => put_is_not(out, key, value, kind_of(site))?,
@@ -172,12 +179,31 @@ pub(crate) fn put_message(
             let name = name.as_str();
             write!(out, "no {part} is named \"{name}\"")?;
         }
-        PlanFault::LinkEnd => put_link_end(out, document, site)?,
+        PlanFault::LinkEnd => put_shared(out, document, site)?,
         PlanFault::TooMany => {
             let most = most_of(word);
             write!(out, "more than {most} tables [[{word}]]")?;
         }
-        PlanFault::Utf8 | PlanFault::Toml | PlanFault::Memory => write!(out, "{fault}")?,
+        PlanFault::Utf8 | PlanFault::Toml | PlanFault::Memory => {}
     }
     Ok(())
+}
+
+/// Appends the message for a fault at a key or table. `value` is the text of the value in the file, or the empty text.
+///
+/// # Errors
+///
+/// `Memory` if an allocation failed.
+pub(crate) fn put_message(
+    out: &mut String,
+    document: &Table,
+    fault: &PlanFault,
+    site: Site<'_>,
+    value: &str,
+) -> Result<(), Memory>
+    ensures { OnOk result ((text : List ℕ) × (string_bytes out.new ≡ string_bytes out.old ++ text)
+        × IsMessage (table_view document.now) fault.now site.entry value.now text) }
+{
+    put_subject(out, document, site)?;
+    put_wrong(out, document, fault, site, value)
 }

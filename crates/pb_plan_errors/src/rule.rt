@@ -1,5 +1,8 @@
 //! What the value of a key must be, in words.
 
+ghost use Rattle.std.specs.Prelude.{◌≡◌, option_map};
+ghost use Rattle.pb_plan_errors.specs.Rules.{rules_of, rule_of};
+
 /// What the value of a key must be.
 #[derive(Clone, Copy)]
 pub(crate) struct Rule {
@@ -139,7 +142,9 @@ static TOP: [Rule; 7] = [
 
 /// Returns the rules of the keys of a table, by the key of the table or array of tables. Those at the top have the empty
 /// text.
-pub(crate) fn rules_of(word: &str) -> &'static [Rule] {
+pub(crate) fn rules_of(word: &str) -> &'static [Rule]
+    ensures { result.now ≡ rules_of word.now }
+{
     match word {
         "network" => &NETWORK,
         "bridge" => &BRIDGE,
@@ -153,8 +158,11 @@ pub(crate) fn rules_of(word: &str) -> &'static [Rule] {
 }
 
 /// Returns the rule of a key, if the table has such a key.
-pub(crate) fn rule_of(word: &str, key: &str) -> Option<&'static Rule> {
-    for rule in rules_of(word) {
+pub(crate) fn rule_of(word: &str, key: &str) -> Option<&'static Rule>
+    ensures { option_map (λ r. r.now) result ≡ rule_of word.now key.now }
+{
+    let rules = rules_of(word);
+    for rule in rules {
         if rule.key == key {
             return Some(rule);
         }
