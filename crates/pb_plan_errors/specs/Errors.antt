@@ -10,7 +10,8 @@ use Rattle.pb_diagnostics.specs.declared.diagnostic.Diagnostic.{Diagnostic}
 use Rattle.pb_diagnostics.specs.declared.mark.Mark.{Mark}
 use Rattle.pb_diagnostics.specs.declared.place.Place.{Place}
 use Rattle.pb_plan_errors.specs.Findings.{IsFinding, has_path}
-use Rattle.pb_plan_errors.specs.Hints.{IsHint, IsMarkOf}
+use Rattle.pb_plan_errors.specs.Hints.{IsHint}
+use Rattle.pb_plan_errors.specs.Marks.{IsMarkOf}
 use Rattle.pb_plan_errors.specs.Messages.{IsMessage}
 use Rattle.pb_plan_errors.specs.declared.finding.Finding.{Finding}
 use Rattle.pb_service.specs.PlanFiles.{IsPlanFile, RefusesFile}

@@ -4,6 +4,7 @@ pub mod Rules
 pub mod Messages
 pub mod Findings
 pub mod Uses
+pub mod Marks
 pub mod Hints
 pub mod Errors
 pub mod Repairs

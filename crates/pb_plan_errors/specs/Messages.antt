@@ -1,5 +1,5 @@
 -- The messages of errors.
-use Rattle.std.specs.Prelude.{◌≡◌, ◌⊎◌, ℕ, Unit, Bool, true, List, [], ◌∷◌, ◌++◌, codes, Some, None, if◌then◌else◌}
+use Rattle.std.specs.Prelude.{◌≡◌, ℕ, ℤ, List, [], ◌∷◌, ◌++◌, codes, Some, None, if◌then◌else◌}
 use Rattle.std.specs.declared.option.Option.{Option}
 use Rattle.std.specs.Fmt.{decimal, signed_decimal}
 use Rattle.std.specs.Option.{option_map_or}
@@ -8,12 +8,11 @@ use Rattle.pb_lan.specs.Names.{is_name}
 use Rattle.pb_diagnostics.specs.Sites.{row_at, table_at}
 use Rattle.pb_diagnostics.specs.declared.site.Site.{Site}
 use Rattle.pb_diagnostics.specs.declared.site.Site.TheVariants.{Key, TableKey, Row, RowKey}
-use Rattle.pb_service.specs.Tables.{text_at, is_one_of}
+use Rattle.pb_service.specs.Tables.{text_at}
 use Rattle.pb_service.specs.declared.fault.PlanFault.{PlanFault}
 use Rattle.pb_service.specs.declared.fault.PlanFault.TheVariants.{Utf8, Toml, Missing, Kind, Range, Unknown, Twice, NoSuch, LinkEnd, TooMany, Memory}
 use Rattle.pb_plan_errors.specs.Paths.{word_of, key_of}
 use Rattle.pb_plan_errors.specs.Rows.{integer_at, name_at, named_by, bridge_key, most_of}
-use Rattle.pb_plan_errors.specs.Rules.{kind_of, range_of}
 
 -- a table by its kind and its name
 abbrev pub named : List ℕ → List ℕ → List ℕ
@@ -50,27 +49,20 @@ table_of_key document (TableKey word key) = table_at document word.now
 table_of_key document (Row word index) = None
 table_of_key document (RowKey word index key) = row_at document word.now index
 
--- what a value that is allowed by itself contradicts
-abbrev pub conflicts : List (List ℕ)
-conflicts =
-    codes "allowed beside tick_every" ∷ codes "allowed without tick_ms or tick_every" ∷ codes "allowed without spanning = \"rstp\""
-    ∷ codes "an end of a link" ∷ codes "allowed without tick_ms" ∷ []
+-- a local port is used twice
+abbrev pub shared_port : ℤ → List ℕ → List ℕ
+shared_port port bridge = codes "port " ++ signed_decimal port ++ codes " of bridge \"" ++ bridge ++ codes "\" is used twice"
 
--- what the value of a key must be: the range of its rule, or without a conflict
-abbrev pub IsWanted : List ℕ → List ℕ → List ℕ → Type 0
-IsWanted word key wanted = (wanted ≡ range_of word key) ⊎ (is_one_of conflicts wanted ≡ true)
-
--- the local port of a table is used twice
+-- the local port at a key of a table is used twice
 abbrev pub shared : Option Members → List ℕ → List ℕ
 shared None key = []
-shared (Some row) key =
-    codes "port " ++ signed_decimal (integer_at row key) ++ codes " of bridge \"" ++ text_at row (bridge_key key) ++ codes "\" is used twice"
+shared (Some row) key = shared_port (integer_at row key) (text_at row (bridge_key key))
 
 -- the text is what is wrong with a key or table; `value` is the text of the key's value
 abbrev pub IsWrong : Members → PlanFault → Site → List ℕ → List ℕ → Type 0
 IsWrong document (Missing path) site value text = text ≡ key_of site ++ codes " is missing"
-IsWrong document (Kind path) site value text = text ≡ is_not (key_of site) value (kind_of (word_of site) (key_of site))
-IsWrong document (Range path) site value text = (wanted : List ℕ) × (text ≡ is_not (key_of site) value wanted) × IsWanted (word_of site) (key_of site) wanted
+IsWrong document (Kind path) site value text = (wanted : List ℕ) × (text ≡ is_not (key_of site) value wanted)
+IsWrong document (Range path) site value text = (wanted : List ℕ) × (text ≡ is_not (key_of site) value wanted)
 IsWrong document (Unknown path) site value text = text ≡ codes "unknown key " ++ key_of site
 IsWrong document (Twice name) site value text = text ≡ codes "another " ++ word_of site ++ codes " has the " ++ key_of site ++ codes " " ++ name
 IsWrong document (NoSuch name) site value text = text ≡ codes "no " ++ named_by (key_of site) ++ codes " is named \"" ++ name ++ codes "\""

@@ -50,7 +50,7 @@ fn read_again(alloc: Global, document: &Table) -> Result<Option<Refused>, Memory
 {
     match toml::table_to_string(alloc, document) {
         Ok(text) => read(alloc, text.as_bytes()),
-        Err(e) if e.is_memory() => Err(Memory),
+        Err(toml::ser::Error::OutOfMemory) => Err(Memory),
         Err(_) => Ok(None),
     }
 }

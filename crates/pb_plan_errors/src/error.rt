@@ -3,7 +3,7 @@
 ghost use Rattle.std.specs.Prelude.{◌≡◌, ◌≢◌, ◌⊎◌, ◌-◌, [], codes, take, drop, string_bytes};
 ghost use Rattle.std.specs.Prelude.{IfOk, OnOk, MatchOption, option_copied};
 ghost use Rattle.toml.specs.View.{table_view};
-ghost use Rattle.pb_plan_errors.specs.Errors.{AreMarked, IsPlaced, IsMarkedText, IsFoundError, IsBare, IsDocumentError};
+ghost use Rattle.pb_plan_errors.specs.Errors.{IsPlaced, IsMarkedText, IsFoundError, IsBare, IsDocumentError};
 ghost use Rattle.pb_plan_errors.specs.Errors.{IsTextError, IsErrorIn, IsFaultError, IsFaultOf, IsFirstError};
 ghost use Rattle.pb_plan_errors.specs.Findings.{IsFinding};
 ghost use Rattle.pb_service.specs.PlanFiles.{IsPlanFile};
@@ -11,8 +11,9 @@ ghost use Rattle.pb_service.specs.declared.fault.PlanFault.TheVariants.{Memory a
 
 use crate::finding::{Finding, finding_of};
 use crate::hint::hint_of;
+use crate::marking::mark_at;
 use crate::message::put_message;
-use pb_diagnostics::{Diagnostic, Mark, Part, Place, mark_of, place_of, statement_of};
+use pb_diagnostics::{Diagnostic, Mark, Part, Place, place_of};
 use pb_frame::Memory;
 use pb_service::{PlanFault, read_plan};
 use std::alloc::Global;
@@ -66,16 +67,6 @@ fn text_error(alloc: Global, file: &[u8]) -> Result<Diagnostic, Memory>
     match std::str::from_utf8(file) {
         Ok(_) => toml_error(alloc, file),
         Err(_) => utf8_error(alloc, file),
-    }
-}
-
-/// Returns the marked octets of a finding, if its key or table is in the file.
-fn mark_at(alloc: Global, file: &[u8], finding: &Finding<'_>) -> Result<Option<Mark>, Memory>
-    ensures { IfOk result (AreMarked file.now finding.now) }
-{
-    match statement_of(alloc, file, finding.shown)? {
-        None => Ok(None),
-        Some(statement) => Ok(Some(mark_of(alloc, file, &statement, finding.part)?)),
     }
 }
 
@@ -137,7 +128,7 @@ fn found_error(
     requires { IsFinding (table_view document.now) fault.now finding.now }
     ensures { IfOk result (IsFoundError file.now (table_view document.now) fault.now) }
 {
-    let mark = mark_at(alloc, file, finding)?;
+    let mark = mark_at(alloc, file, finding.shown, finding.part)?;
     let mut message = String::new(alloc);
     let value = value_text(file, finding.part, mark.as_ref());
     put_message(&mut message, document, fault, finding.about, value)?;

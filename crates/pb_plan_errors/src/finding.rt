@@ -1,6 +1,6 @@
 //! The key or table at which a document breaks a rule.
 
-ghost use Rattle.std.specs.Prelude.{◌≡◌, ◌≤◌, Bool, All, IfSome, IfOk, IsTrue, MatchOption};
+ghost use Rattle.std.specs.Prelude.{◌≡◌, ◌≤◌, false, All, IfSome, IfOk, IsTrue, MatchOption};
 ghost use Rattle.std.specs.Str.Parse.{signed_digits_value};
 ghost use Rattle.toml.specs.View.{table_view};
 ghost use Rattle.pb_frame.specs.Admission.{same};
@@ -301,7 +301,7 @@ pub(crate) fn finding_of<'a>(
     fault: &'a PlanFault,
 ) -> Result<Option<Finding<'a>>, Memory>
     ensures { IfOk result (λ o.
-        MatchOption o (has_path fault.now ≡ Bool.false) (IsFinding (table_view document.now) fault.now)) }
+        MatchOption o (has_path fault.now ≡ false) (IsFinding (table_view document.now) fault.now)) }
 {
     match fault {
         PlanFault::Missing(path) => Ok(Some(missing(path.as_str()))),

@@ -2,15 +2,15 @@
 
 ghost use Rattle.std.specs.Prelude.{◌≡◌, map, option_map, string_bytes, IfOk, IfSome};
 ghost use Rattle.toml.specs.View.{table_view};
-ghost use Rattle.pb_plan_errors.specs.Hints.{meant, IsLineOf, TellsLine, IsHint};
+ghost use Rattle.pb_plan_errors.specs.Hints.{meant, has_it, TellsLine, TellsOther, IsHint};
 ghost use Rattle.pb_plan_errors.specs.Rules.{keys_of};
 
 use crate::finding::Finding;
-use crate::names::{named_by, names_of};
+use crate::marking::line_of;
+use crate::names::{name_at, named_by, names_of};
 use crate::path::word_and_key;
-use crate::row::text_at;
 use crate::rule::{Rule, rules_of};
-use pb_diagnostics::{Part, Site, mark_of, nearest, place_of, row_at, statement_of};
+use pb_diagnostics::{Site, nearest};
 use pb_frame::Memory;
 use pb_service::PlanFault;
 use std::alloc::Global;
@@ -45,38 +45,46 @@ fn meant_key(alloc: Global, word: &str, key: &str) -> Result<Option<String>, Mem
     meant(alloc, keys.as_slice(), key)
 }
 
-/// Returns the number of the line of a key or table, if it has one.
-fn line_of(alloc: Global, file: &[u8], site: Site<'_>) -> Result<Option<usize>, Memory>
-    ensures { IfOk result (λ line. IfSome line (IsLineOf file.now site.entry)) }
+/// Returns the hint that a table has the value, at a line.
+fn has_it(alloc: Global, word: &str, name: &str, line: usize) -> Result<String, Memory>
+    ensures { IfOk result (λ h. string_bytes h ≡ has_it word.now name.now line) }
 {
-    let Some(statement) = statement_of(alloc, file, site)? else {
-        return Ok(None);
-    };
-    let mark = mark_of(alloc, file, &statement, Part::Whole)?;
-    Ok(Some(place_of(alloc, file, &mark)?.line))
+    Ok(format!(in alloc; "{word} \"{name}\" has it at line {line}")?)
 }
 
-/// Returns the hint with the line of the earlier key.
+/// Returns the hint with the line of the other key.
 fn other_line(
     alloc: Global,
     file: &[u8],
     document: &Table,
-    other: Site<'_>,
+    word: &str,
+    index: usize,
+    key: &str,
 ) -> Result<Option<String>, Memory>
     ensures { IfOk result (λ hint. IfSome hint (λ h.
-        TellsLine file.now (table_view document.now) other.entry (string_bytes h))) }
+        TellsLine file.now (table_view document.now) (Site.RowKey word.entry index key.entry) (string_bytes h))) }
 {
-    let Site::RowKey(word, index, _) = other else {
-        return Ok(None);
-    };
-    let Some(line) = line_of(alloc, file, other)? else {
-        return Ok(None);
-    };
-    let name = match row_at(document, word, index) {
-        Some(row) => text_at(row, "name"),
-        None => "",
-    };
-    Ok(Some(format!(in alloc; "{word} \"{name}\" has it at line {line}")?))
+    match line_of(alloc, file, Site::RowKey(word, index, key))? {
+        Some(line) => Ok(Some(has_it(alloc, word, name_at(document, word, index), line)?)),
+        None => Ok(None),
+    }
+}
+
+/// Returns the hint with the line of the other key of a finding, if it has one.
+fn other_hint(
+    alloc: Global,
+    file: &[u8],
+    document: &Table,
+    other: Option<Site<'_>>,
+) -> Result<Option<String>, Memory>
+    ensures { IfOk result (TellsOther file.now (table_view document.now) other.entry) }
+{
+    match other {
+        Some(Site::RowKey(word, index, key)) => {
+            other_line(alloc, file, document, word, index, key)
+        }
+        _ => Ok(None),
+    }
 }
 
 /// Returns the hint of an error, if there is one: the nearest name or key, or the line of the other use.
@@ -100,9 +108,15 @@ pub(crate) fn hint_of(
             let names = names_of(alloc, document, named_by(key))?;
             meant(alloc, names.as_slice(), name.as_str())
         }
-        _ => match finding.other {
-            Some(other) => other_line(alloc, file, document, other),
-            None => Ok(None),
-        },
+        PlanFault::Twice(_) | PlanFault::LinkEnd => {
+            other_hint(alloc, file, document, finding.other)
+        }
+        PlanFault::Missing(_)
+        | PlanFault::Kind(_)
+        | PlanFault::Range(_)
+        | PlanFault::TooMany
+        | PlanFault::Utf8
+        | PlanFault::Toml
+        | PlanFault::Memory => Ok(None),
     }
 }

@@ -1,17 +1,15 @@
 //! The messages of errors.
 
-ghost use Rattle.std.specs.Prelude.{◌≡◌, ◌++◌, List, ℕ, string_bytes, option_map, IfSome, OnOk, Contains};
+ghost use Rattle.std.specs.Prelude.{◌≡◌, ◌++◌, List, ℕ, string_bytes, option_map, OnOk};
 ghost use Rattle.toml.specs.View.{table_view};
-ghost use Rattle.pb_service.specs.Tables.{is_one_of};
-ghost use Rattle.pb_plan_errors.specs.Messages.{named, placed, is_not, row_subject, subject, shared, conflicts};
-ghost use Rattle.pb_plan_errors.specs.Messages.{table_of_key, IsWanted, IsWrong, IsMessage};
-ghost use Rattle.pb_plan_errors.specs.Paths.{word_of, key_of};
+ghost use Rattle.pb_plan_errors.specs.Messages.{named, placed, is_not, row_subject, subject, shared_port, shared};
+ghost use Rattle.pb_plan_errors.specs.Messages.{table_of_key, IsWrong, IsMessage};
+ghost use Rattle.pb_plan_errors.specs.Paths.{key_of};
 ghost use Rattle.pb_plan_errors.specs.Rows.{name_at};
-ghost use Rattle.pb_plan_errors.specs.Rules.{kind_of};
 
 use crate::ends::bridge_key;
 use crate::finding::most_of;
-use crate::names::named_by;
+use crate::names::{name_at, named_by};
 use crate::path::word_and_key;
 use crate::row::{integer_at, text_at};
 use crate::rule::rule_of;
@@ -42,10 +40,7 @@ fn put_row(out: &mut String, document: &Table, word: &str, index: usize) -> Resu
     ensures { OnOk result (string_bytes out.new ≡ string_bytes out.old
         ++ row_subject word.now index (name_at (table_view document.now) word.now index)) }
 {
-    let name = match row_at(document, word, index) {
-        Some(row) => text_at(row, "name"),
-        None => "",
-    };
+    let name = name_at(document, word, index);
     if is_name(name.as_bytes()) {
         put_named(out, word, name)
     } else {
@@ -92,9 +87,7 @@ fn table_of_key<'a>(document: &'a Table, site: Site<'_>) -> Option<&'a Table>
 }
 
 /// Returns what a value contradicts, if it would be allowed by itself.
-fn conflict_of(word: &str, key: &str, row: &Table) -> Option<&'static str>
-    ensures { IfSome result (λ text. is_one_of conflicts text.now ≡ Bool.true) }
-{
+fn conflict_of(word: &str, key: &str, row: &Table) -> Option<&'static str> {
     let number = integer_at(row, key);
     match (word, key) {
         ("network", "tick_ms") if 0 <= number && number <= 60_000 => {
@@ -111,9 +104,7 @@ fn conflict_of(word: &str, key: &str, row: &Table) -> Option<&'static str>
 }
 
 /// Returns what the value of a key must be.
-fn range_of(document: &Table, site: Site<'_>) -> &'static str
-    ensures { IsWanted (word_of site.entry) (key_of site.entry) result.now }
-{
+fn range_of(document: &Table, site: Site<'_>) -> &'static str {
     let (word, key) = word_and_key(site);
     if let Some(row) = table_of_key(document, site) {
         if let Some(conflict) = conflict_of(word, key, row) {
@@ -127,9 +118,7 @@ fn range_of(document: &Table, site: Site<'_>) -> &'static str
 }
 
 /// Returns the TOML type that the value of a key must have.
-fn kind_of(site: Site<'_>) -> &'static str
-    ensures { result.now ≡ kind_of (word_of site.entry) (key_of site.entry) }
-{
+fn kind_of(site: Site<'_>) -> &'static str {
     let (word, key) = word_and_key(site);
     match rule_of(word, key) {
         Some(rule) => rule.kind,
@@ -138,6 +127,14 @@ fn kind_of(site: Site<'_>) -> &'static str
 }
 
 /// Appends that a local port is used twice.
+fn put_shared_port(out: &mut String, port: i64, bridge: &str) -> Result<(), Memory>
+    ensures { OnOk result (string_bytes out.new ≡ string_bytes out.old ++ shared_port port bridge.now) }
+{
+    write!(out, "port {port} of bridge \"{bridge}\" is used twice")?;
+    Ok(())
+}
+
+/// Appends that the local port of a key is used twice.
 fn put_shared(out: &mut String, document: &Table, site: Site<'_>) -> Result<(), Memory>
     ensures { OnOk result (string_bytes out.new ≡ string_bytes out.old
         ++ shared (table_of_key (table_view document.now) site.entry) (key_of site.entry)) }
@@ -146,10 +143,7 @@ fn put_shared(out: &mut String, document: &Table, site: Site<'_>) -> Result<(), 
         return Ok(());
     };
     let (_, key) = word_and_key(site);
-    let port = integer_at(row, key);
-    let bridge = text_at(row, bridge_key(key));
-    write!(out, "port {port} of bridge \"{bridge}\" is used twice")?;
-    Ok(())
+    put_shared_port(out, integer_at(row, key), text_at(row, bridge_key(key)))
 }
 
 /// Appends what is wrong at a key or table, without the table. `value` is the text of the value in the file, or the

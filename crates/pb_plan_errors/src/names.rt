@@ -2,12 +2,23 @@
 
 ghost use Rattle.std.specs.Prelude.{◌≡◌, map, IfOk};
 ghost use Rattle.toml.specs.View.{table_view};
-ghost use Rattle.pb_plan_errors.specs.Rows.{names_at, is_named, named_by};
+ghost use Rattle.pb_plan_errors.specs.Rows.{name_at, names_at, is_named, named_by};
 
 use crate::row::{items_at, text_at};
+use pb_diagnostics::row_at;
 use pb_frame::Memory;
 use std::alloc::Global;
 use toml::Table;
+
+/// Returns the name of a table of an array, or the empty text if it has none.
+pub(crate) fn name_at<'a>(document: &'a Table, word: &str, index: usize) -> &'a str
+    ensures { result.now ≡ name_at (table_view document.now) word.now index }
+{
+    match row_at(document, word, index) {
+        Some(row) => text_at(row, "name"),
+        None => "",
+    }
+}
 
 /// Returns the names of the tables of an array, in their order.
 ///

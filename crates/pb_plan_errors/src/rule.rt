@@ -1,7 +1,7 @@
 //! What the value of a key must be, in words.
 
-ghost use Rattle.std.specs.Prelude.{◌≡◌, option_map};
-ghost use Rattle.pb_plan_errors.specs.Rules.{rules_of, rule_of};
+ghost use Rattle.std.specs.Prelude.{◌≡◌, map};
+ghost use Rattle.pb_plan_errors.specs.Rules.{keys_of};
 
 /// What the value of a key must be.
 #[derive(Clone, Copy)]
@@ -142,27 +142,32 @@ static TOP: [Rule; 7] = [
 
 /// Returns the rules of the keys of a table, by the key of the table or array of tables. Those at the top have the empty
 /// text.
+#[tactic(auto, unfolding(crate::specs::Rules::keys_of))]
 pub(crate) fn rules_of(word: &str) -> &'static [Rule]
-    ensures { result.now ≡ rules_of word.now }
+    ensures { map (λ r. r.key.now) result.now ≡ keys_of word.now }
 {
-    match word {
-        "network" => &NETWORK,
-        "bridge" => &BRIDGE,
-        "link" => &LINK,
-        "service" => &SERVICE,
-        "port" => &PORTS,
-        "event" => &EVENT,
-        "accept" => &ACCEPT,
-        _ => &TOP,
+    if word == "network" {
+        &NETWORK
+    } else if word == "bridge" {
+        &BRIDGE
+    } else if word == "link" {
+        &LINK
+    } else if word == "service" {
+        &SERVICE
+    } else if word == "port" {
+        &PORTS
+    } else if word == "event" {
+        &EVENT
+    } else if word == "accept" {
+        &ACCEPT
+    } else {
+        &TOP
     }
 }
 
 /// Returns the rule of a key, if the table has such a key.
-pub(crate) fn rule_of(word: &str, key: &str) -> Option<&'static Rule>
-    ensures { option_map (λ r. r.now) result ≡ rule_of word.now key.now }
-{
-    let rules = rules_of(word);
-    for rule in rules {
+pub(crate) fn rule_of(word: &str, key: &str) -> Option<&'static Rule> {
+    for rule in rules_of(word) {
         if rule.key == key {
             return Some(rule);
         }
