@@ -1,6 +1,6 @@
 //! The key or table at which a document breaks a rule.
 
-ghost use Rattle.std.specs.Prelude.{◌≡◌, ◌≤◌, false, All, IfSome, IfOk, IsTrue, MatchOption};
+ghost use Rattle.std.specs.Prelude.{◌≡◌, ◌≤◌, ◌<◌, false, All, IfSome, IfOk, IsTrue, MatchOption};
 ghost use Rattle.std.specs.Str.Parse.{signed_digits_value};
 ghost use Rattle.toml.specs.View.{table_view};
 ghost use Rattle.pb_frame.specs.Admission.{same};
@@ -176,8 +176,9 @@ fn distinct_keys(word: &str) -> &'static [&'static str] {
 
 /// Returns the index of the first table of an array that has this name, address or VID, after `from` others.
 fn with_word(document: &Table, word: &str, key: &str, text: &str, from: usize) -> Option<usize>
-    ensures { IfSome result (λ index. (from ≤ index)
+    ensures found { IfSome result (λ index. (from ≤ index)
         × HasRow (table_view document.now) word.now index (HasWord key.now text.now)) }
+    ensures below { IfSome result (λ index. index < usize.MAX) }
 {
     for index in from..items_at(document, word).len() {
         if let Some(row) = row_at(document, word, index) {
@@ -200,7 +201,7 @@ fn twice_in(
 {
     for key in keys {
         if let Some(first) = with_word(document, word, key, text, 0) {
-            if let Some(second) = with_word(document, word, key, text, first.saturating_add(1)) {
+            if let Some(second) = with_word(document, word, key, text, first + 1) {
                 let other = Some(Site::RowKey(word, first, *key));
                 return Some(at_site(Site::RowKey(word, second, *key), Part::Value, other));
             }
@@ -221,14 +222,30 @@ fn twice(document: &Table, text: &str) -> Option<Finding<'static>>
     None
 }
 
+/// Returns the key of a local port if one of some earlier ones is the same, with that of its first use.
+fn shared_with(
+    document: &Table,
+    earlier: &[PortUse<'_>],
+    of: PortUse<'_>,
+) -> Option<Finding<'static>>
+    requires earlier { All (IsUse (table_view document.now)) earlier.now }
+    requires of { IsUse (table_view document.now) of }
+    ensures { IfSome result (IsLinkEnd (table_view document.now)) }
+{
+    match same_use(earlier, &of) {
+        Some(other) => Some(at_site(of.site(), Part::Value, Some(other.site()))),
+        None => None,
+    }
+}
+
 /// Returns the key of the first of some local ports that is used a second time, with that of its first use.
 fn shared_among(document: &Table, uses: &[PortUse<'_>]) -> Option<Finding<'static>>
     requires { All (IsUse (table_view document.now)) uses.now }
     ensures { IfSome result (IsLinkEnd (table_view document.now)) }
 {
     for (index, of) in uses.iter().enumerate() {
-        if let Some(earlier) = same_use(&uses[..index], of) {
-            return Some(at_site(of.site(), Part::Value, Some(earlier.site())));
+        if let Some(finding) = shared_with(document, &uses[..index], *of) {
+            return Some(finding);
         }
     }
     None

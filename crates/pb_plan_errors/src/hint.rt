@@ -70,6 +70,22 @@ fn other_line(
     }
 }
 
+/// Returns the hint with the line of a key of another table.
+fn site_hint(
+    alloc: Global,
+    file: &[u8],
+    document: &Table,
+    site: Site<'_>,
+) -> Result<Option<String>, Memory>
+    ensures { IfOk result (λ hint. IfSome hint (λ h.
+        TellsLine file.now (table_view document.now) site.entry (string_bytes h))) }
+{
+    match site {
+        Site::RowKey(word, index, key) => other_line(alloc, file, document, word, index, key),
+        Site::Key(_) | Site::TableKey(_, _) | Site::Row(_, _) => Ok(None),
+    }
+}
+
 /// Returns the hint with the line of the other key of a finding, if it has one.
 fn other_hint(
     alloc: Global,
@@ -80,10 +96,8 @@ fn other_hint(
     ensures { IfOk result (TellsOther file.now (table_view document.now) other.entry) }
 {
     match other {
-        Some(Site::RowKey(word, index, key)) => {
-            other_line(alloc, file, document, word, index, key)
-        }
-        _ => Ok(None),
+        Some(site) => site_hint(alloc, file, document, site),
+        None => Ok(None),
     }
 }
 
