@@ -3,6 +3,8 @@ use Rattle.std.proofs.Common.{◌≡◌, ◌≢◌, ◌⊎◌, ◌∙◌, inl, i
 use Rattle.std.specs.Str.{IsUtf8}
 use Rattle.toml.specs.Data.{Members}
 use Rattle.toml.specs.Parse.{parse_document}
+use Rattle.pb_diagnostics.specs.declared.diagnostic.Diagnostic.{Diagnostic}
+use Rattle.pb_plan_errors.specs.Errors.{IsDocumentError, IsFaultOf, IsFirstError}
 use Rattle.pb_service.specs.PlanFiles.{RefusesFile, Tells}
 use Rattle.pb_service.specs.Refusals.{Refuses}
 use Rattle.pb_service.specs.declared.fault.PlanFault.{PlanFault}
@@ -31,3 +33,15 @@ refused_document file d (Twice x) u p m r = told file d (Twice x) p m r
 refused_document file d (NoSuch x) u p m r = told file d (NoSuch x) p m r
 refused_document file d LinkEnd u p m r = told file d LinkEnd p m r
 refused_document file d TooMany u p m r = told file d TooMany p m r
+
+-- the error of the document of a file is its first error (used by `plan_error`)
+pub first_error : (file : List ℕ) (d : Members) (fault : PlanFault) (e : Diagnostic)
+    → IsUtf8 file × (parse_document file ≡ Some d) → IsFaultOf file fault → IsDocumentError file d fault e
+    → IsFirstError file e
+first_error file d fault e read broken error =
+    inr (d, read.1, record {
+      fault = fault;
+      breaks = refused_document file d fault read.0 read.1 broken.0 broken.1;
+      no_lack = broken.0;
+      error = error;
+    })
