@@ -1,5 +1,5 @@
 -- The errors of a file, one by one.
-use Rattle.std.proofs.Common.{◌≡◌, List, ℕ, [], ◌∷◌, ◌++◌}
+use Rattle.std.proofs.Common.{List, ℕ, [], ◌∷◌, ◌++◌}
 use Rattle.std.specs.List.{AllByRecursion}
 use Rattle.pb_diagnostics.specs.declared.diagnostic.Diagnostic.{Diagnostic}
 use Rattle.toml.specs.View.{table_view}
@@ -21,10 +21,12 @@ one_more file (x ∷ xs) e h l = (h.0, all_more (IsLaterError file) xs e h.1 l)
 -- the error of a document that is refused is a later error (used by `put_later`)
 pub later_error : (file : List ℕ) (r : Refused) (e : Diagnostic) → IsRefused r
     → IsDocumentError file (table_view r.document) r.fault e → IsLaterError file e
-later_error file r e refused error =
-    (table_view r.document, record {
-      fault = r.fault;
-      breaks = refused.breaks;
-      no_lack = refused.no_lack;
-      error = error;
-    })
+later_error file r e refused error = (
+  table_view r.document,
+  record {
+    fault = r.fault;
+    breaks = refused.breaks;
+    no_lack = refused.no_lack;
+    error = error;
+  },
+)

@@ -39,9 +39,13 @@ pub first_error : (file : List ℕ) (d : Members) (fault : PlanFault) (e : Diagn
     → IsUtf8 file × (parse_document file ≡ Some d) → IsFaultOf file fault → IsDocumentError file d fault e
     → IsFirstError file e
 first_error file d fault e read broken error =
-    inr (d, read.1, record {
-      fault = fault;
-      breaks = refused_document file d fault read.0 read.1 broken.0 broken.1;
-      no_lack = broken.0;
-      error = error;
-    })
+    inr (
+      d,
+      read.1,
+      record {
+        fault = fault;
+        breaks = refused_document file d fault read.0 read.1 broken.0 broken.1;
+        no_lack = broken.0;
+        error = error;
+      },
+    )

@@ -1,5 +1,5 @@
 -- The errors of a plan file.
-use Rattle.std.specs.Prelude.{◌≡◌, ◌≢◌, ◌⊎◌, ◌-◌, ℕ, false, codes, List, [], ◌∷◌, take, drop, None, Some, Option, MatchOption, IfSome, string_bytes}
+use Rattle.std.specs.Prelude.{◌≡◌, ◌≢◌, ◌⊎◌, ◌-◌, ℕ, false, codes, List, [], ◌∷◌, take, drop, None, Some, Option, MatchOption, string_bytes}
 use Rattle.std.specs.List.{AllByRecursion}
 use Rattle.std.specs.Str.{IsUtf8}
 use Rattle.toml.specs.Data.{Members}

@@ -1,5 +1,5 @@
 -- The key or table at which a document breaks a rule.
-use Rattle.std.specs.Prelude.{◌≡◌, ◌⊎◌, ◌<◌, ℕ, ℤ, Bool, true, false, List, map, codes, Some, None, IsSome}
+use Rattle.std.specs.Prelude.{◌≡◌, ◌⊎◌, ◌<◌, ℕ, ℤ, Bool, true, false, List, map, Some, None, IsSome}
 use Rattle.std.specs.Borrow.{Bor}
 use Rattle.std.specs.Char.{to_ascii_lowercase}
 use Rattle.std.specs.Str.Parse.{signed_digits_value}
@@ -10,11 +10,11 @@ use Rattle.pb_diagnostics.specs.Sites.{row_at}
 use Rattle.pb_diagnostics.specs.declared.mark.Part.{Part}
 use Rattle.pb_diagnostics.specs.declared.mark.Part.TheVariants.{Whole, Key as KeyPart, Value}
 use Rattle.pb_diagnostics.specs.declared.site.Site.{Site}
-use Rattle.pb_diagnostics.specs.declared.site.Site.TheVariants.{Key, TableKey, Row, RowKey}
+use Rattle.pb_diagnostics.specs.declared.site.Site.TheVariants.{Row, RowKey}
 use Rattle.pb_service.specs.Tables.{text_at, items_at}
 use Rattle.pb_service.specs.Values.{any_item, is_text}
 use Rattle.pb_service.specs.declared.fault.PlanFault.{PlanFault}
-use Rattle.pb_service.specs.declared.fault.PlanFault.TheVariants.{Utf8, Toml, Missing, Kind, Range, Unknown, Twice, NoSuch, LinkEnd, TooMany, Memory}
+use Rattle.pb_service.specs.declared.fault.PlanFault.TheVariants.{Missing, Kind, Range, Unknown, Twice, NoSuch, LinkEnd, TooMany}
 use Rattle.pb_plan_errors.specs.Paths.{IsSiteOf, table_of}
 use Rattle.pb_plan_errors.specs.Rows.{integer_at, is_named, named_by, bridge_key, most_of}
 use Rattle.pb_plan_errors.specs.declared.finding.Finding.{Finding}

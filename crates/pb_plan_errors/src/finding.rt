@@ -65,12 +65,7 @@ fn is_listed(row: &Table, key: &str, name: &str) -> bool
 }
 
 /// Returns the first of some keys of a table that names something that isn't there.
-fn unnamed(
-    document: &Table,
-    row: &Table,
-    name: &str,
-    keys: &[&'static str],
-) -> Option<&'static str>
+fn unnamed(document: &Table, row: &Table, name: &str, keys: &[&'static str]) -> Option<&'static str>
     ensures { IfSome result (Lacks (table_view document.now) name.now (table_view row.now)) }
 {
     for key in keys {

@@ -1,6 +1,5 @@
 use Rattle.std.proofs.Common.{◌≤◌, length}
 use Rattle.pb_plan_errors.specs.Errors.{HasErrors}
-use Rattle.pb_plan_errors.specs.Repairs.{IsRefused}
 use Rattle.pb_plan_errors.proofs.all.put_later.Given as goal
 
 -- one error at most was found in each round

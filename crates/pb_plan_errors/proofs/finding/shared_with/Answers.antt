@@ -10,6 +10,6 @@ returns-in-Some c =
     let same = c.in-Some.ensures in
     let other = all_contained (IsUse document) c.args.earlier.now c.in-Some.other c.requires.earlier same.0 in (
       shared_finding document c.at_site.result c.args.of c.in-Some.other (c.at_site.ensures.about ∙ c.site.ensures)
-      (c.at_site.ensures.other ∙ ap Some c.site-in-Some.ensures) c.requires.of other same.1 same.2,
+          (c.at_site.ensures.other ∙ ap Some c.site-in-Some.ensures) c.requires.of other same.1 same.2,
       c.at_site.ensures.at,
     )
