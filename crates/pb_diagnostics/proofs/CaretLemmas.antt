@@ -1,5 +1,5 @@
 -- Carets one by one.
-use Rattle.std.proofs.Common.{◌≡◌, ℕ, suc, ◌+◌, ◌-◌, ◌<◌, List, [], ◌∷◌, ◌++◌, ap, sym, arith, append_assoc}
+use Rattle.std.proofs.Common.{◌≡◌, ℕ, suc, ◌+◌, ◌-◌, ◌<◌, List, [], ◌∷◌, ◌++◌, ap, arith, append_assoc}
 use Rattle.pb_diagnostics.specs.Texts.{carets}
 
 carets-step : (n i : ℕ) → i < n → carets (n - i) ≡ 94 ∷ carets (n - (i + 1))

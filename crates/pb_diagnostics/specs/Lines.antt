@@ -1,5 +1,5 @@
 -- One line of a TOML text.
-use Rattle.std.specs.Prelude.{ℕ, ◌+◌, ◌-◌, ◌==◌, ◌||◌, ◌&&◌, not, Bool, true, false, List, [], ◌∷◌, length, reverse, take, drop, take_while, nat_lt, get_or, unwrap_or}
+use Rattle.std.specs.Prelude.{ℕ, ◌+◌, ◌-◌, ◌==◌, ◌||◌, ◌&&◌, not, Bool, List, [], ◌∷◌, length, reverse, take, drop, take_while, nat_lt, get_or, unwrap_or}
 use Rattle.std.specs.List.{list_any, position}
 
 -- a space, a tab or a carriage return

@@ -1,5 +1,5 @@
 -- The lines of a TOML text that give a key its value, or begin a table.
-use Rattle.std.specs.Prelude.{◌≡◌, ◌≤◌, ◌⊎◌, ℕ, Bool, true, false, List, length, take, get_or, None, Some, if◌then◌else◌}
+use Rattle.std.specs.Prelude.{◌≡◌, ◌⊎◌, ℕ, Bool, true, false, List, take, get_or, None, Some}
 use Rattle.std.specs.Str.{IsUtf8}
 use Rattle.toml.specs.Data.{Members}
 use Rattle.toml.specs.Parse.{parse_document}
@@ -27,3 +27,7 @@ IsWhole file ends site index has = Tells (take (get_or ends index 0) file) site 
 pub record IsStatement (file : List ℕ) (site : Site) (s : Statement) : Type 0 where
   pub lacks : (s.from ≡ 0) ⊎ Tells (take s.from file) site false
   pub has : Tells (take s.to file) site true
+
+-- the file isn't a document, or is one that lacks the key or table
+abbrev pub LacksSite : List ℕ → Site → Type 0
+LacksSite file site = IsUtf8 file → (document : Members) → parse_document file ≡ Some document → has_site document site ≡ false

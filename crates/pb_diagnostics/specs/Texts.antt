@@ -1,5 +1,5 @@
 -- The printed form of an error.
-use Rattle.std.specs.Prelude.{ℕ, suc, zero, ◌-◌, ◌==◌, List, [], ◌∷◌, ◌++◌, codes, length, take, min, string_bytes, Option, Some, None, if◌then◌else◌}
+use Rattle.std.specs.Prelude.{ℕ, suc, zero, ◌-◌, ◌==◌, List, [], ◌∷◌, ◌++◌, codes, take, string_bytes, Option, Some, None, if◌then◌else◌}
 use Rattle.std.specs.Fmt.{decimal}
 use Rattle.std.specs.List.{flat_map}
 use Rattle.std.specs.Option.{option_map_or}

@@ -1,7 +1,9 @@
 //! A place of a text, with its line.
 
-ghost use Rattle.std.specs.Prelude.{◌≡◌, ◌==◌, ◌≤◌, not, length, reverse, count_by, take_while, take, drop, IfOk};
-ghost use Rattle.pb_diagnostics.specs.Places.{IsPlace, is_first_octet};
+ghost use Rattle.std.specs.Prelude.{◌≡◌, ◌≤◌, ◌==◌, count_by, length, max, slice_range, IfOk};
+ghost use Rattle.std.specs.Str.{IsUtf8};
+ghost use Rattle.pb_diagnostics.specs.Lines.{first_line};
+ghost use Rattle.pb_diagnostics.specs.Places.{is_first_octet, characters, last_length, line_at, start_in, end_in, IsPlace};
 
 use crate::line::first_line;
 use crate::mark::Mark;
@@ -29,7 +31,7 @@ fn ended_lines(text: &[u8]) -> usize
 
 /// Returns the length of the last line of a text, in octets.
 fn last_length(text: &[u8]) -> usize
-    ensures { result ≡ length (take_while (λ b. not (b == 10)) (reverse text.now)) }
+    ensures { result ≡ last_length text.now }
 {
     text.iter().rev().take_while(|b| **b != b'\n').count()
 }
@@ -43,9 +45,52 @@ pub(crate) fn is_first_octet(octet: u8) -> bool
 
 /// Returns the number of characters of a text.
 fn characters(text: &[u8]) -> usize
-    ensures { result ≡ count_by is_first_octet text.now }
+    ensures { result ≡ characters text.now }
 {
     text.iter().filter(|b| is_first_octet(**b)).count()
+}
+
+/// Returns the text of a line, or the empty text if it isn't UTF-8.
+fn text_of(line: &[u8]) -> &str
+    ensures { IsUtf8 line.now → result.now ≡ line.now }
+{
+    match std::str::from_utf8(line) {
+        Ok(text) => text,
+        Err(_) => "",
+    }
+}
+
+/// Returns where marked octets begin in a file.
+fn start_in(file: &[u8], mark: &Mark) -> usize
+    ensures value { result ≡ start_in file.now mark.now }
+    ensures within { result ≤ length file.now }
+{
+    mark.from.min(file.len())
+}
+
+/// Returns where marked octets end in a file.
+fn end_in(file: &[u8], mark: &Mark) -> usize
+    ensures value { result ≡ end_in file.now mark.now }
+    ensures within { result ≤ length file.now }
+    ensures order { start_in file.now mark.now ≤ result }
+{
+    mark.to.min(file.len()).max(start_in(file, mark))
+}
+
+/// Returns the line of the octet at an index.
+fn line_at(file: &[u8], at: usize) -> &[u8]
+    requires { at ≤ length file.now }
+    ensures { result.now ≡ line_at file.now at }
+{
+    first_line(&file[at.saturating_sub(last_length(&file[..at]))..])
+}
+
+/// Returns the number of marked characters of the first marked line, at least 1.
+fn width_of(file: &[u8], mark: &Mark) -> usize
+    ensures { result ≡ max (characters (first_line
+        (slice_range file.now (start_in file.now mark.now) (end_in file.now mark.now)))) 1 }
+{
+    characters(first_line(&file[start_in(file, mark)..end_in(file, mark)])).max(1)
 }
 
 /// Returns the place of some octets of a file.
@@ -56,15 +101,12 @@ fn characters(text: &[u8]) -> usize
 pub fn place_of(alloc: Global, file: &[u8], mark: &Mark) -> Result<Place, AllocError>
     ensures { IfOk result (IsPlace file.now mark.now) }
 {
-    let from = mark.from.min(file.len());
+    let from = start_in(file, mark);
     let before = &file[..from];
-    let line = first_line(&file[from.saturating_sub(last_length(before))..]);
-    let text = std::str::from_utf8(line).unwrap_or("");
-    let marked = first_line(&file[from..mark.to.min(file.len()).max(from)]);
     Ok(Place {
         line: ended_lines(before) + 1,
         column: last_length(before) + 1,
-        width: characters(marked).max(1),
-        text: String::from_str(alloc, text)?,
+        width: width_of(file, mark),
+        text: String::from_str(alloc, text_of(line_at(file, from)))?,
     })
 }

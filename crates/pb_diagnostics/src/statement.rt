@@ -1,7 +1,7 @@
 //! The lines of a TOML text that give a key its value, or begin a table.
 
-ghost use Rattle.std.specs.Prelude.{◌≡◌, ◌≤◌, ◌<◌, length, take, IfOk, IfSome};
-ghost use Rattle.pb_diagnostics.specs.Statements.{IsReading, IsStatement, IsWhole};
+ghost use Rattle.std.specs.Prelude.{◌≡◌, ◌≤◌, ◌<◌, length, take, IfOk, IfSome, IfNone};
+ghost use Rattle.pb_diagnostics.specs.Statements.{IsReading, IsStatement, IsWhole, LacksSite};
 
 use crate::site::{Site, has_site};
 use std::alloc::{AllocError, Global};
@@ -112,7 +112,8 @@ pub fn statement_of(
     file: &[u8],
     site: Site<'_>,
 ) -> Result<Option<Statement>, AllocError>
-    ensures { IfOk result (λ o. IfSome o (IsStatement file.now site.entry)) }
+    ensures found { IfOk result (λ o. IfSome o (IsStatement file.now site.entry)) }
+    ensures none { IfOk result (λ o. IfNone o (LacksSite file.now site.entry)) }
 {
     let Reading::Has = reading_of(alloc, file, site)? else {
         return Ok(None);

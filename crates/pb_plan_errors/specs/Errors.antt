@@ -1,37 +1,106 @@
 -- The errors of a plan file.
-use Rattle.std.specs.Prelude.{◌≡◌, ◌≢◌, ◌⊎◌, ℕ, codes, List, None, Option, IfSome, MatchOption, string_bytes}
+use Rattle.std.specs.Prelude.{◌≡◌, ◌≢◌, ◌⊎◌, ◌-◌, ℕ, false, codes, List, [], ◌∷◌, take, drop, None, Some, Option, MatchOption, string_bytes}
+use Rattle.std.specs.List.{AllByRecursion}
+use Rattle.std.specs.Str.{IsUtf8}
 use Rattle.toml.specs.Data.{Members}
-use Rattle.pb_diagnostics.specs.Marks.{IsMark}
+use Rattle.toml.specs.Parse.{parse_document}
 use Rattle.pb_diagnostics.specs.Places.{IsPlace}
-use Rattle.pb_diagnostics.specs.Statements.{IsStatement}
+use Rattle.pb_diagnostics.specs.Statements.{LacksSite}
 use Rattle.pb_diagnostics.specs.declared.diagnostic.Diagnostic.{Diagnostic}
 use Rattle.pb_diagnostics.specs.declared.mark.Mark.{Mark}
-use Rattle.pb_diagnostics.specs.declared.mark.Part.{Part}
 use Rattle.pb_diagnostics.specs.declared.place.Place.{Place}
-use Rattle.pb_diagnostics.specs.declared.site.Site.{Site}
-use Rattle.pb_diagnostics.specs.declared.statement.Statement.{Statement}
+use Rattle.pb_plan_errors.specs.Findings.{IsFinding, has_path}
+use Rattle.pb_plan_errors.specs.Hints.{IsHint}
+use Rattle.pb_plan_errors.specs.Marks.{IsMarkOf}
 use Rattle.pb_plan_errors.specs.Messages.{IsMessage}
+use Rattle.pb_plan_errors.specs.declared.finding.Finding.{Finding}
 use Rattle.pb_service.specs.PlanFiles.{IsPlanFile, RefusesFile}
+use Rattle.pb_service.specs.Refusals.{Refuses}
 use Rattle.pb_service.specs.declared.fault.PlanFault.{PlanFault}
-use Rattle.pb_service.specs.declared.fault.PlanFault.TheVariants.{Memory}
+use Rattle.pb_service.specs.declared.fault.PlanFault.TheVariants.{Utf8, Toml, Memory}
 
--- the place of a part of the statement that gives the file a key or table
-pub record IsPlaceOf (file : List ℕ) (site : Site) (part : Part) (p : Place) : Type 0 where
-  pub statement : Statement
-  pub lines : IsStatement file site statement
+-- the marked octets of a finding, if its key or table is in the file
+abbrev pub AreMarked : List ℕ → Finding → Option Mark → Type 0
+AreMarked file f m = MatchOption m (LacksSite file f.shown) (IsMarkOf file f.shown f.part)
+
+-- the place of marked octets, if there are some
+abbrev pub IsPlaced : List ℕ → Option Mark → Option Place → Type 0
+IsPlaced file None p = p ≡ None
+IsPlaced file (Some m) None = ⊥
+IsPlaced file (Some m) (Some p) = IsPlace file m p
+
+-- the text is empty, or that of the marked octets
+abbrev pub IsMarkedText : List ℕ → Option Mark → List ℕ → Type 0
+IsMarkedText file None text = text ≡ []
+IsMarkedText file (Some m) text = (text ≡ []) ⊎ (text ≡ take (m.to - m.from) (drop m.from file))
+
+-- the error for a fault of a document at a key or table: its place in the file, its message and its hint
+pub record IsFoundError (file : List ℕ) (document : Members) (fault : PlanFault) (e : Diagnostic) : Type 0 where
+  pub finding : Finding
+  pub found : IsFinding document fault finding
+  pub mark : Option Mark
+  pub marked : AreMarked file finding mark
+  pub placed : IsPlaced file mark e.place
+  pub value : List ℕ
+  pub value_is : IsMarkedText file mark value
+  pub message : IsMessage document fault finding.about value (string_bytes e.message)
+  pub hint : IsHint file document fault finding e.hint
+
+-- an error without place and hint
+pub record IsBare (e : Diagnostic) : Type 0 where
+  pub place : e.place ≡ None
+  pub hint : e.hint ≡ None
+
+-- the error for a fault of a document; that of a fault about the key of a path has a key or table
+abbrev pub IsDocumentError : List ℕ → Members → PlanFault → Diagnostic → Type 0
+IsDocumentError file document fault e = IsFoundError file document fault e ⊎ ((has_path fault ≡ false) × IsBare e)
+
+-- the error at some octets of a file, without a hint
+pub record IsTextError (file : List ℕ) (e : Diagnostic) : Type 0 where
   pub mark : Mark
-  pub marks : IsMark file statement part mark
-  pub placed : IsPlace file mark p
+  pub placed : IsPlaced file (Some mark) e.place
+  pub hint : e.hint ≡ None
 
--- a place of the file, which is that of a key or table if the file is a document
-abbrev pub HasPlace : List ℕ → Place → Type 0
-HasPlace file p = (site : Site) × (part : Part) × IsPlaceOf file site part p
+-- the error for a fault of a file, if the file is a document
+abbrev pub IsErrorIn : List ℕ → PlanFault → Diagnostic → Type 0
+IsErrorIn file fault e = (document : Members) → IsUtf8 file → parse_document file ≡ Some document → IsDocumentError file document fault e
 
--- the error for a fault of a document: its message, and its place in the file
-pub record IsDocumentError (file : List ℕ) (document : Members) (fault : PlanFault) (e : Diagnostic) : Type 0 where
-  pub placed : IfSome e.place (HasPlace file)
-  pub message : (e.place ≡ None) ⊎ ((site : Site) × (value : List ℕ) × IsMessage document fault site value (string_bytes e.message))
+-- the error for a fault of a file
+abbrev pub IsFaultError : List ℕ → PlanFault → Diagnostic → Type 0
+IsFaultError file Utf8 e = IsTextError file e × (string_bytes e.message ≡ codes "not UTF-8")
+IsFaultError file Toml e = IsTextError file e
+IsFaultError file Memory e = ⊥
+IsFaultError file fault e = IsErrorIn file fault e
 
 -- the file breaks the rule of a fault other than memory
-abbrev pub IsRefused : List ℕ → Type 0
-IsRefused file = (fault : PlanFault) × (fault ≢ Memory) × RefusesFile file fault
+abbrev pub IsFaultOf : List ℕ → PlanFault → Type 0
+IsFaultOf file fault = (fault ≢ Memory) × RefusesFile file fault
+
+-- the error of a document in a file: that of a rule that the document breaks
+pub record IsErrorOf (file : List ℕ) (document : Members) (e : Diagnostic) : Type 0 where
+  pub fault : PlanFault
+  pub breaks : Refuses document fault
+  pub no_lack : fault ≢ Memory
+  pub error : IsDocumentError file document fault e
+
+-- the file isn't a TOML document
+abbrev pub IsNoDocument : List ℕ → Type 0
+IsNoDocument file = IsUtf8 file → parse_document file ≡ None
+
+-- the first error of a file: that of its text, or that of its document
+abbrev pub IsFirstError : List ℕ → Diagnostic → Type 0
+IsFirstError file e = (IsNoDocument file × IsTextError file e) ⊎ ((document : Members) × (parse_document file ≡ Some document) × IsErrorOf file document e)
+
+-- a later error of a file: that of a document
+abbrev pub IsLaterError : List ℕ → Diagnostic → Type 0
+IsLaterError file e = (document : Members) × IsErrorOf file document e
+
+-- the errors of a file, which has none if it is a plan
+abbrev pub AreErrors : List ℕ → List Diagnostic → Type 0
+AreErrors file [] = IsPlanFile file
+AreErrors file (e ∷ es) = IsFirstError file e × AllByRecursion (IsLaterError file) es
+
+-- the errors of a file that is no plan
+abbrev pub HasErrors : List ℕ → List Diagnostic → Type 0
+HasErrors file [] = ⊥
+HasErrors file (e ∷ es) = IsFirstError file e × AllByRecursion (IsLaterError file) es

@@ -1,2 +1,10 @@
+pub mod Rows
+pub mod Paths
+pub mod Rules
 pub mod Messages
+pub mod Findings
+pub mod Uses
+pub mod Marks
+pub mod Hints
 pub mod Errors
+pub mod Repairs

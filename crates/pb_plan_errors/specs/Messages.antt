@@ -1,30 +1,17 @@
 -- The messages of errors.
-use Rattle.std.specs.Prelude.{◌≡◌, ℕ, Unit, List, [], ◌∷◌, ◌++◌, ◌||◌, codes, if◌then◌else◌}
-use Rattle.std.specs.Fmt.{decimal}
-use Rattle.std.specs.Option.{option_map_or}
+use Rattle.std.specs.Prelude.{◌≡◌, ℕ, ℤ, List, [], ◌∷◌, ◌++◌, codes, Some, None, if◌then◌else◌}
+use Rattle.std.specs.declared.option.Option.{Option}
+use Rattle.std.specs.Fmt.{decimal, signed_decimal}
 use Rattle.toml.specs.Data.{Members}
-use Rattle.pb_frame.specs.Admission.{same}
 use Rattle.pb_lan.specs.Names.{is_name}
-use Rattle.pb_diagnostics.specs.Sites.{row_at}
+use Rattle.pb_diagnostics.specs.Sites.{row_at, table_at}
 use Rattle.pb_diagnostics.specs.declared.site.Site.{Site}
 use Rattle.pb_diagnostics.specs.declared.site.Site.TheVariants.{Key, TableKey, Row, RowKey}
 use Rattle.pb_service.specs.Tables.{text_at}
 use Rattle.pb_service.specs.declared.fault.PlanFault.{PlanFault}
-use Rattle.pb_service.specs.declared.fault.PlanFault.TheVariants.{Utf8, Toml, Missing, Kind, Range, Unknown, Twice, NoSuch, LinkEnd, TooMany, Memory}
-
--- the key of the table or array of tables, which is empty for a key at the top
-abbrev pub word_of : Site → List ℕ
-word_of (Key key) = []
-word_of (TableKey word key) = word.now
-word_of (Row word index) = word.now
-word_of (RowKey word index key) = word.now
-
--- the key, which is empty for a table
-abbrev pub key_of : Site → List ℕ
-key_of (Key key) = key.now
-key_of (TableKey word key) = key.now
-key_of (Row word index) = []
-key_of (RowKey word index key) = key.now
+use Rattle.pb_service.specs.declared.fault.PlanFault.TheVariants.{Missing, Kind, Range, Unknown, Twice, NoSuch, LinkEnd, TooMany}
+use Rattle.pb_plan_errors.specs.Paths.{word_of, key_of}
+use Rattle.pb_plan_errors.specs.Rows.{integer_at, name_at, named_by, bridge_key, most_of}
 
 -- a table by its kind and its name
 abbrev pub named : List ℕ → List ℕ → List ℕ
@@ -33,10 +20,6 @@ named word name = word ++ codes " \"" ++ name ++ codes "\": "
 -- a table by its kind and its index
 abbrev pub placed : List ℕ → ℕ → List ℕ
 placed word index = word ++ codes "[" ++ decimal index ++ codes "]: "
-
--- the name of a table of an array, which is empty if it has none
-abbrev pub name_at : Members → List ℕ → ℕ → List ℕ
-name_at document word index = option_map_or (λ row. text_at row (codes "name")) (row_at document word index) []
 
 -- a table of an array by its name, if it has one
 abbrev pub row_subject : List ℕ → ℕ → List ℕ → List ℕ
@@ -58,18 +41,34 @@ spaced (b ∷ bs) = codes " " ++ (b ∷ bs)
 abbrev pub is_not : List ℕ → List ℕ → List ℕ → List ℕ
 is_not key value wanted = key ++ spaced value ++ codes " is not " ++ wanted
 
--- the array of tables whose names a key takes
-abbrev pub named_by : List ℕ → List ℕ
-named_by key =
-    if same key (codes "a") || (same key (codes "b") || same key (codes "bridge")) then codes "bridge"
-    else if same key (codes "link") || same key (codes "links") then codes "link" else codes "service"
+-- the table of a key
+abbrev pub table_of_key : Members → Site → Option Members
+table_of_key document (Key key) = None
+table_of_key document (TableKey word key) = table_at document word.now
+table_of_key document (Row word index) = None
+table_of_key document (RowKey word index key) = row_at document word.now index
 
--- the text is the message for a fault at a key or table of a document; `value` is the text of the key's value
+-- a local port is used twice
+abbrev pub shared_port : ℤ → List ℕ → List ℕ
+shared_port port bridge = codes "port " ++ signed_decimal port ++ codes " of bridge \"" ++ bridge ++ codes "\" is used twice"
+
+-- the local port at a key of a table is used twice
+abbrev pub shared : Option Members → List ℕ → List ℕ
+shared None key = []
+shared (Some row) key = shared_port (integer_at row key) (text_at row (bridge_key key))
+
+-- the text is what is wrong with a key or table; `value` is the text of the key's value
+abbrev pub IsWrong : Members → PlanFault → Site → List ℕ → List ℕ → Type 0
+IsWrong document (Missing path) site value text = text ≡ key_of site ++ codes " is missing"
+IsWrong document (Kind path) site value text = (wanted : List ℕ) × (text ≡ is_not (key_of site) value wanted)
+IsWrong document (Range path) site value text = (wanted : List ℕ) × (text ≡ is_not (key_of site) value wanted)
+IsWrong document (Unknown path) site value text = text ≡ codes "unknown key " ++ key_of site
+IsWrong document (Twice name) site value text = text ≡ codes "another " ++ word_of site ++ codes " has the " ++ key_of site ++ codes " " ++ name
+IsWrong document (NoSuch name) site value text = text ≡ codes "no " ++ named_by (key_of site) ++ codes " is named \"" ++ name ++ codes "\""
+IsWrong document LinkEnd site value text = text ≡ shared (table_of_key document site) (key_of site)
+IsWrong document TooMany site value text = text ≡ codes "more than " ++ decimal (most_of (word_of site)) ++ codes " tables [[" ++ word_of site ++ codes "]]"
+IsWrong document fault site value text = Unit {0}
+
+-- the text is the message for a fault at a key or table of a document: the table, and what is wrong
 abbrev pub IsMessage : Members → PlanFault → Site → List ℕ → List ℕ → Type 0
-IsMessage document (Missing path) site value text = text ≡ subject document site ++ key_of site ++ codes " is missing"
-IsMessage document (Kind path) site value text = (wanted : List ℕ) × (text ≡ subject document site ++ is_not (key_of site) value wanted)
-IsMessage document (Range path) site value text = (wanted : List ℕ) × (text ≡ subject document site ++ is_not (key_of site) value wanted)
-IsMessage document (Unknown path) site value text = text ≡ subject document site ++ codes "unknown key " ++ key_of site
-IsMessage document (Twice name) site value text = text ≡ subject document site ++ codes "another " ++ word_of site ++ codes " has the " ++ key_of site ++ codes " " ++ name
-IsMessage document (NoSuch name) site value text = text ≡ subject document site ++ codes "no " ++ named_by (key_of site) ++ codes " is named \"" ++ name ++ codes "\""
-IsMessage document fault site value text = Unit {0}
+IsMessage document fault site value text = (wrong : List ℕ) × (text ≡ subject document site ++ wrong) × IsWrong document fault site value wrong

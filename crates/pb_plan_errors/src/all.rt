@@ -1,27 +1,57 @@
 //! All errors of a plan file.
 
-ghost use Rattle.std.specs.Prelude.{◌≤◌, length, IfOk, OnOk};
+ghost use Rattle.std.specs.Prelude.{◌≡◌, ◌≤◌, length, IfOk, IfSome, OnOk};
+ghost use Rattle.toml.specs.Parse.{parse_document};
+ghost use Rattle.toml.specs.View.{table_view};
+ghost use Rattle.pb_plan_errors.specs.Errors.{AreErrors, HasErrors};
+ghost use Rattle.pb_plan_errors.specs.Repairs.{IsRefused, IsSame};
 
-use crate::error::{document_error, fault_error};
+use crate::error::{document_error, fault_of, plan_error};
 use crate::repair::repair;
 use pb_diagnostics::{Diagnostic, Place};
 use pb_frame::Memory;
-use pb_service::{PlanFault, read_plan};
+use pb_service::PlanFault;
 use std::alloc::Global;
 use toml::Table;
 
 /// The most errors that are reported.
 pub const MOST_ERRORS: usize = 50;
 
-/// Returns the first fault of a document, read again from its text. `None` if it is a plan or has no text.
-fn fault_of(alloc: Global, document: &Table) -> Result<Option<PlanFault>, Memory> {
-    let Ok(text) = toml::table_to_string(alloc, document) else {
-        return Ok(None);
+/// A document, and the first rule that it breaks.
+#[derive(Drop)]
+struct Refused {
+    /// The document.
+    document: Table,
+    /// The rule that it breaks.
+    fault: PlanFault,
+}
+
+/// Returns a document, and the first rule that it breaks. `None` if the text is a plan or no document.
+fn read(alloc: Global, text: &[u8]) -> Result<Option<Refused>, Memory>
+    ensures refused { IfOk result (λ o. IfSome o IsRefused) }
+    ensures same { IfOk result (λ o. IfSome o (λ r. parse_document text.now ≡ Some (table_view r.document))) }
+{
+    let document = match toml::table_from_slice(alloc, text) {
+        Ok(document) => document,
+        Err(e) if e.is_memory() => return Err(Memory),
+        Err(_) => return Ok(None),
     };
-    match read_plan(alloc, text.as_bytes()) {
-        Ok(_) => Ok(None),
-        Err(PlanFault::Memory) => Err(Memory),
-        Err(fault) => Ok(Some(fault)),
+    match fault_of(alloc, text)? {
+        Some(fault) => Ok(Some(Refused { document, fault })),
+        None => Ok(None),
+    }
+}
+
+/// Returns a document, read again from its text, and the first rule that it breaks. `None` if it is a plan or has no
+/// text.
+fn read_again(alloc: Global, document: &Table) -> Result<Option<Refused>, Memory>
+    ensures refused { IfOk result (λ o. IfSome o IsRefused) }
+    ensures same { IfOk result (λ o. IfSome o (λ r. IsSame (table_view document.now) (table_view r.document))) }
+{
+    match toml::table_to_string(alloc, document) {
+        Ok(text) => read(alloc, text.as_bytes()),
+        Err(toml::ser::Error::OutOfMemory) => Err(Memory),
+        Err(_) => Ok(None),
     }
 }
 
@@ -42,32 +72,45 @@ fn is_again(errors: &[Diagnostic], error: &Diagnostic) -> bool {
         && last.message.as_str() == error.message.as_str()
 }
 
+/// Returns the first error of a document after the rule that it breaks is repaired, and that document. `None` if it
+/// can't be repaired, or breaks no rule then.
+fn next_of(alloc: Global, refused: Refused) -> Result<Option<Refused>, Memory>
+    ensures { IfOk result (λ o. IfSome o IsRefused) }
+{
+    let Refused {
+        mut document,
+        fault,
+    } = refused;
+    if repair(alloc, &mut document, &fault)? {
+        read_again(alloc, &document)
+    } else {
+        Ok(None)
+    }
+}
+
 /// Appends the errors after the first: each is the first one of the document in which those before it are repaired.
 fn put_later(
     alloc: Global,
     errors: &mut Vec<Diagnostic>,
     file: &[u8],
-    document: Table,
-    fault: PlanFault,
+    refused: Refused,
 ) -> Result<(), Memory>
-    requires { length errors.now.items ≤ 1 }
-    ensures { OnOk result (length errors.new.items ≤ 50) }
+    requires few { length errors.old.items ≤ 1 }
+    requires first { HasErrors file.now errors.old.items }
+    ensures few { OnOk result (length errors.new.items ≤ 50) }
+    ensures errors { OnOk result (HasErrors file.now errors.new.items) }
 {
-    let mut document = document;
-    let mut fault = fault;
+    let mut refused = refused;
     for _round in 1..MOST_ERRORS {
-        if !repair(alloc, &mut document, &fault)? {
-            return Ok(());
-        }
-        let Some(next) = fault_of(alloc, &document)? else {
+        let Some(next) = next_of(alloc, refused)? else {
             return Ok(());
         };
-        let error = document_error(alloc, file, &document, &next)?;
+        let error = document_error(alloc, file, &next.document, &next.fault)?;
         if is_again(errors.as_slice(), &error) {
             return Ok(());
         }
         errors.push(error)?;
-        fault = next;
+        refused = next;
     }
     Ok(())
 }
@@ -82,18 +125,16 @@ fn put_later(
 ///
 /// `Memory` if an allocation failed.
 pub fn plan_errors(alloc: Global, file: &[u8]) -> Result<Vec<Diagnostic>, Memory>
-    ensures { IfOk result (λ errors. length errors.items ≤ 50) }
+    ensures few { IfOk result (λ errors. length errors.items ≤ 50) }
+    ensures errors { IfOk result (λ errors. AreErrors file.now errors.items) }
 {
     let mut errors = Vec::new(alloc);
-    let fault = match read_plan(alloc, file) {
-        Ok(_) => return Ok(errors),
-        Err(fault) => fault,
+    let Some(error) = plan_error(alloc, file)? else {
+        return Ok(errors);
     };
-    errors.push(fault_error(alloc, file, &fault)?)?;
-    match toml::table_from_slice(alloc, file) {
-        Ok(document) => put_later(alloc, &mut errors, file, document, fault)?,
-        Err(e) if e.is_memory() => return Err(Memory),
-        Err(_) => {}
+    errors.push(error)?;
+    if let Some(refused) = read(alloc, file)? {
+        put_later(alloc, &mut errors, file, refused)?;
     }
     Ok(errors)
 }

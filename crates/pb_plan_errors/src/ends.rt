@@ -1,7 +1,12 @@
 //! The local ports that links and customer ports use.
 
+ghost use Rattle.std.specs.Prelude.{◌≡◌, All, Contains, IfOk, OnOk, IfSome};
+ghost use Rattle.toml.specs.View.{table_view};
+ghost use Rattle.pb_plan_errors.specs.Rows.{bridge_key};
+ghost use Rattle.pb_plan_errors.specs.Uses.{IsUse};
+
 use crate::row::{integer_at, items_at, text_at};
-use pb_diagnostics::Site;
+use pb_diagnostics::{Site, row_at};
 use pb_frame::Memory;
 use std::alloc::Global;
 use toml::Table;
@@ -23,31 +28,64 @@ pub(crate) struct PortUse<'a> {
 
 impl<'a> PortUse<'a> {
     /// Returns the key of the local port.
-    pub(crate) fn site(&self) -> Site<'static> {
+    pub(crate) fn site(&self) -> Site<'static>
+        ensures { result ≡ Site.RowKey self.now.word self.now.index self.now.key }
+    {
         Site::RowKey(self.word, self.index, self.key)
     }
 }
 
-/// Appends the uses by the tables of an array, by the keys of bridge and local port.
+/// Returns the key of the bridge whose local port a key gives.
+pub(crate) fn bridge_key(key: &str) -> &'static str
+    ensures { result.now ≡ bridge_key key.now }
+{
+    if key == "a_port" {
+        "a"
+    } else if key == "b_port" {
+        "b"
+    } else {
+        "bridge"
+    }
+}
+
+/// Appends the uses by a table of an array, at these keys of local ports.
+fn put_uses_of<'a>(
+    uses: &mut Vec<PortUse<'a>>,
+    document: &'a Table,
+    word: &'static str,
+    index: usize,
+    keys: &[&'static str],
+) -> Result<(), Memory>
+    requires { All (IsUse (table_view document.now)) uses.old.items }
+    ensures { OnOk result (All (IsUse (table_view document.now)) uses.new.items) }
+{
+    let Some(row) = row_at(document, word, index) else {
+        return Ok(());
+    };
+    for key in keys {
+        uses.push(PortUse {
+            word,
+            index,
+            key: *key,
+            bridge: text_at(row, bridge_key(key)),
+            port: integer_at(row, key),
+        })?;
+    }
+    Ok(())
+}
+
+/// Appends the uses by the tables of an array, at these keys of local ports.
 fn put_uses<'a>(
     uses: &mut Vec<PortUse<'a>>,
     document: &'a Table,
     word: &'static str,
-    ends: &[(&'static str, &'static str)],
-) -> Result<(), Memory> {
-    for (index, item) in items_at(document, word).iter().enumerate() {
-        let Some(row) = item.as_table() else {
-            continue;
-        };
-        for (bridge, port) in ends {
-            uses.push(PortUse {
-                word,
-                index,
-                key: *port,
-                bridge: text_at(row, bridge),
-                port: integer_at(row, port),
-            })?;
-        }
+    keys: &[&'static str],
+) -> Result<(), Memory>
+    requires { All (IsUse (table_view document.now)) uses.old.items }
+    ensures { OnOk result (All (IsUse (table_view document.now)) uses.new.items) }
+{
+    for index in 0..items_at(document, word).len() {
+        put_uses_of(uses, document, word, index, keys)?;
     }
     Ok(())
 }
@@ -57,20 +95,20 @@ fn put_uses<'a>(
 /// # Errors
 ///
 /// `Memory` if an allocation failed.
-pub(crate) fn uses_of<'a>(alloc: Global, document: &'a Table) -> Result<Vec<PortUse<'a>>, Memory> {
+pub(crate) fn uses_of<'a>(alloc: Global, document: &'a Table) -> Result<Vec<PortUse<'a>>, Memory>
+    ensures { IfOk result (λ uses. All (IsUse (table_view document.now)) uses.items) }
+{
     let mut uses = Vec::new(alloc);
-    put_uses(
-        &mut uses,
-        document,
-        "link",
-        &[("a", "a_port"), ("b", "b_port")],
-    )?;
-    put_uses(&mut uses, document, "port", &[("bridge", "port")])?;
+    put_uses(&mut uses, document, "link", &["a_port", "b_port"])?;
+    put_uses(&mut uses, document, "port", &["port"])?;
     Ok(uses)
 }
 
 /// Returns the first of some uses that is of the same local port as another.
-pub(crate) fn same_use<'a>(uses: &[PortUse<'a>], of: &PortUse<'_>) -> Option<PortUse<'a>> {
+pub(crate) fn same_use<'a>(uses: &[PortUse<'a>], of: &PortUse<'_>) -> Option<PortUse<'a>>
+    ensures { IfSome result (λ other. Contains uses.now other
+        × (other.bridge.now ≡ of.now.bridge.now) × (other.port ≡ of.now.port)) }
+{
     for other in uses {
         if other.bridge == of.bridge && other.port == of.port {
             return Some(*other);

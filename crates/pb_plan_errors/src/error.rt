@@ -1,23 +1,28 @@
 //! The error of a plan file.
 
-ghost use Rattle.std.specs.Prelude.{◌≡◌, ◌≢◌, IfOk, IfSome, MatchOption};
+ghost use Rattle.std.specs.Prelude.{◌≡◌, ◌≢◌, ◌⊎◌, ◌-◌, [], codes, take, drop, string_bytes};
+ghost use Rattle.std.specs.Prelude.{IfOk, OnOk, MatchOption, option_copied};
 ghost use Rattle.toml.specs.View.{table_view};
-ghost use Rattle.pb_diagnostics.specs.Marks.{IsMark};
-ghost use Rattle.pb_diagnostics.specs.Places.{IsPlace};
-ghost use Rattle.pb_plan_errors.specs.Errors.{IsDocumentError, IsRefused};
+ghost use Rattle.pb_plan_errors.specs.Errors.{IsPlaced, IsMarkedText, IsFoundError, IsBare, IsDocumentError};
+ghost use Rattle.pb_plan_errors.specs.Errors.{IsTextError, IsErrorIn, IsFaultError, IsFaultOf, IsFirstError};
+ghost use Rattle.pb_plan_errors.specs.Findings.{IsFinding};
 ghost use Rattle.pb_service.specs.PlanFiles.{IsPlanFile};
+ghost use Rattle.pb_service.specs.declared.fault.PlanFault.TheVariants.{Memory as lack};
 
 use crate::finding::{Finding, finding_of};
 use crate::hint::hint_of;
+use crate::marking::mark_at;
 use crate::message::put_message;
-use pb_diagnostics::{Diagnostic, Mark, Part, Place, mark_of, place_of, statement_of};
+use pb_diagnostics::{Diagnostic, Mark, Part, Place, place_of};
 use pb_frame::Memory;
 use pb_service::{PlanFault, read_plan};
 use std::alloc::Global;
 use toml::Table;
 
 /// Returns the error at some octets of a file.
-fn error_at(alloc: Global, file: &[u8], mark: &Mark, text: &str) -> Result<Diagnostic, Memory> {
+fn error_at(alloc: Global, file: &[u8], mark: &Mark, text: &str) -> Result<Diagnostic, Memory>
+    ensures { IfOk result (λ e. IsTextError file.now e × (string_bytes e.message ≡ text.now)) }
+{
     Ok(Diagnostic {
         place: Some(place_of(alloc, file, mark)?),
         message: String::from_str(alloc, text)?,
@@ -26,7 +31,9 @@ fn error_at(alloc: Global, file: &[u8], mark: &Mark, text: &str) -> Result<Diagn
 }
 
 /// Returns the error of a file that isn't UTF-8.
-fn utf8_error(alloc: Global, file: &[u8]) -> Result<Diagnostic, Memory> {
+fn utf8_error(alloc: Global, file: &[u8]) -> Result<Diagnostic, Memory>
+    ensures { IfOk result (λ e. IsTextError file.now e × (string_bytes e.message ≡ codes "not UTF-8")) }
+{
     let from = match std::str::from_utf8(file) {
         Ok(_) => 0,
         Err(e) => e.valid_up_to(),
@@ -35,7 +42,9 @@ fn utf8_error(alloc: Global, file: &[u8]) -> Result<Diagnostic, Memory> {
 }
 
 /// Returns the error of a text that isn't TOML, with the reason of the TOML reader.
-fn toml_error(alloc: Global, file: &[u8]) -> Result<Diagnostic, Memory> {
+fn toml_error(alloc: Global, file: &[u8]) -> Result<Diagnostic, Memory>
+    ensures { IfOk result (IsTextError file.now) }
+{
     match toml::table_from_slice(alloc, file) {
         Ok(_) => error_at(alloc, file, &Mark { from: 0, to: 0 }, "not TOML"),
         Err(e) => match e.span() {
@@ -51,39 +60,94 @@ fn toml_error(alloc: Global, file: &[u8]) -> Result<Diagnostic, Memory> {
     }
 }
 
-/// Returns the marked octets of a key or table, if it is in the file.
-fn mark_at(alloc: Global, file: &[u8], finding: &Finding<'_>) -> Result<Option<Mark>, Memory> {
-    match statement_of(alloc, file, finding.shown)? {
-        None => Ok(None),
-        Some(statement) => Ok(Some(mark_of(alloc, file, &statement, finding.part)?)),
+/// Returns the error of a file that isn't a TOML document.
+fn text_error(alloc: Global, file: &[u8]) -> Result<Diagnostic, Memory>
+    ensures { IfOk result (IsTextError file.now) }
+{
+    match std::str::from_utf8(file) {
+        Ok(_) => toml_error(alloc, file),
+        Err(_) => utf8_error(alloc, file),
     }
 }
 
 /// Returns the text if it is no array and no inline table, and else the empty text.
-fn plain_value(text: &str) -> &str {
+fn plain_value(text: &str) -> &str
+    ensures { (result.now ≡ []) ⊎ (result.now ≡ text.now) }
+{
     match text.as_bytes() {
         [b'[' | b'{', ..] => "",
         _ => text,
     }
 }
 
-/// Returns the marked text if it is a value that is no array and no inline table, and else the empty text.
-fn value_text<'a>(file: &'a [u8], finding: &Finding<'_>, mark: Option<&Mark>) -> &'a str {
+/// Returns some octets of a file if they are the text of a value that is no array and no inline table, and else the
+/// empty text.
+fn text_at<'a>(file: &'a [u8], mark: &Mark) -> &'a str
+    ensures { (result.now ≡ []) ⊎ (result.now ≡ take (mark.now.to - mark.now.from) (drop mark.now.from file.now)) }
+{
+    if mark.from > mark.to || mark.to > file.len() {
+        return "";
+    }
+    match std::str::from_utf8(&file[mark.from..mark.to]) {
+        Ok(text) => plain_value(text),
+        Err(_) => "",
+    }
+}
+
+/// Returns the text of a finding's value if it is no array and no inline table, and else the empty text.
+fn value_text<'a>(file: &'a [u8], part: Part, mark: Option<&Mark>) -> &'a str
+    ensures { IsMarkedText file.now (option_copied mark.entry) result.now }
+{
     match mark {
-        Some(mark)
-            if finding.part == Part::Value && mark.from <= mark.to && mark.to <= file.len() => {
-            plain_value(std::str::from_utf8(&file[mark.from..mark.to]).unwrap_or(""))
-        }
-        _ => "",
+        Some(mark) => match part {
+            Part::Value => text_at(file, mark),
+            _ => "",
+        },
+        None => "",
     }
 }
 
 /// Returns the place of some octets, if there are some.
-fn place_at(alloc: Global, file: &[u8], mark: Option<&Mark>) -> Result<Option<Place>, Memory> {
+fn place_at(alloc: Global, file: &[u8], mark: Option<&Mark>) -> Result<Option<Place>, Memory>
+    ensures { IfOk result (IsPlaced file.now (option_copied mark.entry)) }
+{
     match mark {
         None => Ok(None),
         Some(mark) => Ok(Some(place_of(alloc, file, mark)?)),
     }
+}
+
+/// Returns the error for a fault at a key or table of a document.
+fn found_error(
+    alloc: Global,
+    file: &[u8],
+    document: &Table,
+    fault: &PlanFault,
+    finding: &Finding<'_>,
+) -> Result<Diagnostic, Memory>
+    requires { IsFinding (table_view document.now) fault.now finding.now }
+    ensures { IfOk result (IsFoundError file.now (table_view document.now) fault.now) }
+{
+    let mark = mark_at(alloc, file, finding.shown, finding.part)?;
+    let mut message = String::new(alloc);
+    let value = value_text(file, finding.part, mark.as_ref());
+    put_message(&mut message, document, fault, finding.about, value)?;
+    Ok(Diagnostic {
+        place: place_at(alloc, file, mark.as_ref())?,
+        message,
+        hint: hint_of(alloc, file, document, fault, finding)?,
+    })
+}
+
+/// Returns an error with the word of a fault alone.
+fn bare_error(alloc: Global, fault: &PlanFault) -> Result<Diagnostic, Memory>
+    ensures { IfOk result IsBare }
+{
+    Ok(Diagnostic {
+        place: None,
+        message: format!(in alloc; "{fault}")?,
+        hint: None,
+    })
 }
 
 /// Returns the error for a fault of a document.
@@ -95,43 +159,70 @@ pub(crate) fn document_error(
 ) -> Result<Diagnostic, Memory>
     ensures { IfOk result (IsDocumentError file.now (table_view document.now) fault.now) }
 {
-    let Some(finding) = finding_of(alloc, document, fault)? else {
-        return Ok(Diagnostic {
-            place: None,
-            message: format!(in alloc; "{fault}")?,
-            hint: None,
-        });
-    };
-    let mark = mark_at(alloc, file, &finding)?;
-    let mut message = String::new(alloc);
-    let value = value_text(file, &finding, mark.as_ref());
-    put_message(&mut message, document, fault, &finding, value)?;
-    Ok(Diagnostic {
-        place: place_at(alloc, file, mark.as_ref())?,
-        message,
-        hint: hint_of(alloc, file, document, fault, &finding)?,
-    })
+    match finding_of(alloc, document, fault)? {
+        Some(finding) => found_error(alloc, file, document, fault, &finding),
+        None => bare_error(alloc, fault),
+    }
+}
+
+/// Returns the error for a fault of a document in a file, if the file is one.
+fn error_in(alloc: Global, file: &[u8], fault: &PlanFault) -> Result<Diagnostic, Memory>
+    ensures { IfOk result (IsErrorIn file.now fault.now) }
+{
+    match toml::table_from_slice(alloc, file) {
+        Ok(document) => document_error(alloc, file, &document, fault),
+        Err(e) if e.is_memory() => Err(Memory),
+        Err(_) => bare_error(alloc, fault),
+    }
 }
 
 /// Returns the error for a fault of a plan file.
 ///
+/// It has the place of the key or table in the file, if there is one. A file that isn't a document has the place at
+/// which reading stopped.
+///
 /// # Errors
 ///
 /// `Memory` if an allocation failed, or if the fault is `Memory`.
-pub fn fault_error(alloc: Global, file: &[u8], fault: &PlanFault) -> Result<Diagnostic, Memory> {
+pub fn fault_error(alloc: Global, file: &[u8], fault: &PlanFault) -> Result<Diagnostic, Memory>
+    ensures { IfOk result (IsFaultError file.now fault.now) }
+{
     match fault {
         PlanFault::Utf8 => utf8_error(alloc, file),
         PlanFault::Toml => toml_error(alloc, file),
         PlanFault::Memory => Err(Memory),
-        _ => match toml::table_from_slice(alloc, file) {
-            Ok(document) => document_error(alloc, file, &document, fault),
-            Err(e) if e.is_memory() => Err(Memory),
-            Err(_) => Ok(Diagnostic {
-                place: None,
-                message: format!(in alloc; "{fault}")?,
-                hint: None,
-            }),
-        },
+        _ => error_in(alloc, file, fault),
+    }
+}
+
+/// Checks that a file was not refused for want of memory.
+///
+/// # Errors
+///
+/// `Memory` if an allocation failed while the file was read.
+fn check_memory(fault: &PlanFault) -> Result<(), Memory>
+    ensures { OnOk result (fault.now ≢ lack) }
+{
+    match fault {
+        PlanFault::Memory => Err(Memory),
+        _ => Ok(()),
+    }
+}
+
+/// Returns the first fault of a plan file. `None` if the file is a plan.
+///
+/// # Errors
+///
+/// `Memory` if an allocation failed.
+pub(crate) fn fault_of(alloc: Global, file: &[u8]) -> Result<Option<PlanFault>, Memory>
+    ensures { IfOk result (λ o. MatchOption o (IsPlanFile file.now) (IsFaultOf file.now)) }
+{
+    match read_plan(alloc, file) {
+        Ok(_) => Ok(None),
+        Err(fault) => {
+            check_memory(&fault)?;
+            Ok(Some(fault))
+        }
     }
 }
 
@@ -141,11 +232,15 @@ pub fn fault_error(alloc: Global, file: &[u8], fault: &PlanFault) -> Result<Diag
 ///
 /// `Memory` if an allocation failed.
 pub fn plan_error(alloc: Global, file: &[u8]) -> Result<Option<Diagnostic>, Memory>
-    ensures { IfOk result (λ o. MatchOption o (IsPlanFile file.now) (λ e. IsRefused file.now)) }
+    ensures { IfOk result (λ o. MatchOption o (IsPlanFile file.now) (IsFirstError file.now)) }
 {
-    match read_plan(alloc, file) {
-        Ok(_) => Ok(None),
-        Err(PlanFault::Memory) => Err(Memory),
-        Err(fault) => Ok(Some(fault_error(alloc, file, &fault)?)),
+    let document = match toml::table_from_slice(alloc, file) {
+        Ok(document) => document,
+        Err(e) if e.is_memory() => return Err(Memory),
+        Err(_) => return Ok(Some(text_error(alloc, file)?)),
+    };
+    match fault_of(alloc, file)? {
+        Some(fault) => Ok(Some(document_error(alloc, file, &document, &fault)?)),
+        None => Ok(None),
     }
 }

@@ -1,6 +1,18 @@
 //! The key or table at which a document breaks a rule.
 
-use crate::ends::{same_use, uses_of};
+ghost use Rattle.std.specs.Prelude.{◌≡◌, ◌≤◌, ◌<◌, false, All, IfSome, IfOk, IsTrue, MatchOption};
+ghost use Rattle.std.specs.Str.Parse.{signed_digits_value};
+ghost use Rattle.toml.specs.View.{table_view};
+ghost use Rattle.pb_frame.specs.Admission.{same};
+ghost use Rattle.pb_service.specs.Tables.{items_at};
+ghost use Rattle.pb_service.specs.Values.{any_item, is_text};
+ghost use Rattle.pb_plan_errors.specs.Findings.{IsAt, HasRow, HasWord, Lacks, IsTwice, IsNoSuch, IsLinkEnd, IsExcess};
+ghost use Rattle.pb_plan_errors.specs.Findings.{IsFinding, has_path};
+ghost use Rattle.pb_plan_errors.specs.Paths.{IsSiteOf, table_of};
+ghost use Rattle.pb_plan_errors.specs.Rows.{most_of};
+ghost use Rattle.pb_plan_errors.specs.Uses.{IsUse};
+
+use crate::ends::{PortUse, same_use, uses_of};
 use crate::names::{is_named, named_by};
 use crate::path::{SECTIONS, site_of, table_of};
 use crate::row::{integer_at, items_at, text_at};
@@ -23,23 +35,39 @@ pub(crate) struct Finding<'a> {
     pub other: Option<Site<'a>>,
 }
 
-/// Returns the finding of a key.
-fn at_key(site: Site<'_>, part: Part) -> Finding<'_> {
+/// Returns the finding of a key or table.
+fn at_site<'a>(site: Site<'a>, part: Part, other: Option<Site<'a>>) -> Finding<'a>
+    ensures about { result.about ≡ site.entry }
+    ensures at { IsAt result part }
+    ensures other { result.other ≡ other.entry }
+{
     Finding {
         about: site,
         shown: site,
         part,
-        other: None,
+        other,
     }
 }
 
-/// Returns the first key of a table that names something that isn't there.
-fn unnamed(
-    document: &Table,
-    row: &Table,
-    name: &str,
-    keys: &[&'static str],
-) -> Option<&'static str> {
+/// Returns whether the list at a key has a name.
+fn is_listed(row: &Table, key: &str, name: &str) -> bool
+    ensures { result ≡ any_item (is_text (same name.now)) (items_at (table_view row.now) key.now) }
+{
+    let items = items_at(row, key);
+    for item in items {
+        if let Some(text) = item.as_str() {
+            if name == text {
+                return true;
+            }
+        }
+    }
+    false
+}
+
+/// Returns the first of some keys of a table that names something that isn't there.
+fn unnamed(document: &Table, row: &Table, name: &str, keys: &[&'static str]) -> Option<&'static str>
+    ensures { IfSome result (Lacks (table_view document.now) name.now (table_view row.now)) }
+{
     for key in keys {
         if text_at(row, key) == name && !is_named(document, named_by(key), name) {
             return Some(*key);
@@ -48,18 +76,17 @@ fn unnamed(
     None
 }
 
-/// Returns the first key of a table that lists something that isn't there.
+/// Returns the first of some keys of a table that lists something that isn't there.
 fn unlisted(
     document: &Table,
     row: &Table,
     name: &str,
     keys: &[&'static str],
-) -> Option<&'static str> {
+) -> Option<&'static str>
+    ensures { IfSome result (Lacks (table_view document.now) name.now (table_view row.now)) }
+{
     for key in keys {
-        let is_listed = items_at(row, key)
-            .iter()
-            .any(|item| item.as_str() == Some(name));
-        if is_listed && !is_named(document, named_by(key), name) {
+        if is_listed(row, key, name) && !is_named(document, named_by(key), name) {
             return Some(*key);
         }
     }
@@ -67,7 +94,9 @@ fn unlisted(
 }
 
 /// Returns the first key of a table of an array that names something that isn't there.
-fn lacking(document: &Table, word: &str, row: &Table, name: &str) -> Option<&'static str> {
+fn lacking(document: &Table, word: &str, row: &Table, name: &str) -> Option<&'static str>
+    ensures { IfSome result (Lacks (table_view document.now) name.now (table_view row.now)) }
+{
     match word {
         "link" => match unnamed(document, row, name, &["a", "b"]) {
             Some(key) => Some(key),
@@ -83,27 +112,50 @@ fn lacking(document: &Table, word: &str, row: &Table, name: &str) -> Option<&'st
     }
 }
 
-/// Returns the first key with a name that nothing has.
-fn no_such(document: &Table, name: &str) -> Option<Finding<'static>> {
-    for word in ["link", "event", "port", "accept"] {
-        for (index, item) in items_at(document, word).iter().enumerate() {
-            let Some(row) = item.as_table() else {
-                continue;
-            };
+/// Returns the first key of an array of tables with a name that nothing has.
+fn no_such_in(document: &Table, word: &'static str, name: &str) -> Option<Finding<'static>>
+    ensures { IfSome result (IsNoSuch (table_view document.now) name.now) }
+{
+    for index in 0..items_at(document, word).len() {
+        if let Some(row) = row_at(document, word, index) {
             if let Some(key) = lacking(document, word, row, name) {
-                return Some(at_key(Site::RowKey(word, index, key), Part::Value));
+                return Some(at_site(Site::RowKey(word, index, key), Part::Value, None));
             }
         }
     }
     None
 }
 
+/// Returns the first key with a name that nothing has.
+fn no_such(document: &Table, name: &str) -> Option<Finding<'static>>
+    ensures { IfSome result (IsNoSuch (table_view document.now) name.now) }
+{
+    for word in ["link", "event", "port", "accept"] {
+        if let Some(finding) = no_such_in(document, word, name) {
+            return Some(finding);
+        }
+    }
+    None
+}
+
+/// Returns whether a text is this number.
+fn is_number(text: &str, number: i64) -> bool
+    ensures { IsTrue result → signed_digits_value 10 text.now ≡ number }
+{
+    match text.parse::<i64>() {
+        Ok(read) => read == number,
+        Err(_) => false,
+    }
+}
+
 /// Returns whether a table has this name, address or VID at a key.
-fn has_word(row: &Table, key: &str, text: &str) -> bool {
+fn has_word(row: &Table, key: &str, text: &str) -> bool
+    ensures { IsTrue result → HasWord key.now text.now (table_view row.now) }
+{
     match key {
         "name" => text_at(row, key) == text,
         "address" => text_at(row, key).eq_ignore_ascii_case(text),
-        _ => text.parse::<i64>().ok() == Some(integer_at(row, key)),
+        _ => is_number(text, integer_at(row, key)),
     }
 }
 
@@ -118,13 +170,35 @@ fn distinct_keys(word: &str) -> &'static [&'static str] {
 }
 
 /// Returns the index of the first table of an array that has this name, address or VID, after `from` others.
-fn with_word(document: &Table, word: &str, key: &str, text: &str, from: usize) -> Option<usize> {
-    for (index, item) in items_at(document, word).iter().enumerate() {
-        if index >= from {
-            if let Some(row) = item.as_table() {
-                if has_word(row, key, text) {
-                    return Some(index);
-                }
+fn with_word(document: &Table, word: &str, key: &str, text: &str, from: usize) -> Option<usize>
+    ensures found { IfSome result (λ index. (from ≤ index)
+        × HasRow (table_view document.now) word.now index (HasWord key.now text.now)) }
+    ensures below { IfSome result (λ index. index < usize.MAX) }
+{
+    for index in from..items_at(document, word).len() {
+        if let Some(row) = row_at(document, word, index) {
+            if has_word(row, key, text) {
+                return Some(index);
+            }
+        }
+    }
+    None
+}
+
+/// Returns the first key of an array of tables with the name, address or VID of an earlier table, among these keys.
+fn twice_in(
+    document: &Table,
+    word: &'static str,
+    text: &str,
+    keys: &[&'static str],
+) -> Option<Finding<'static>>
+    ensures { IfSome result (IsTwice (table_view document.now) text.now) }
+{
+    for key in keys {
+        if let Some(first) = with_word(document, word, key, text, 0) {
+            if let Some(second) = with_word(document, word, key, text, first + 1) {
+                let other = Some(Site::RowKey(word, first, *key));
+                return Some(at_site(Site::RowKey(word, second, *key), Part::Value, other));
             }
         }
     }
@@ -132,48 +206,58 @@ fn with_word(document: &Table, word: &str, key: &str, text: &str, from: usize) -
 }
 
 /// Returns the first key with the name, address or VID of an earlier table.
-fn twice(document: &Table, text: &str) -> Option<Finding<'static>> {
+fn twice(document: &Table, text: &str) -> Option<Finding<'static>>
+    ensures { IfSome result (IsTwice (table_view document.now) text.now) }
+{
     for word in SECTIONS {
-        for key in distinct_keys(word) {
-            let Some(first) = with_word(document, word, key, text, 0) else {
-                continue;
-            };
-            if let Some(second) = with_word(document, word, key, text, first + 1) {
-                let site = Site::RowKey(word, second, *key);
-                let other = Some(Site::RowKey(word, first, *key));
-                return Some(Finding {
-                    about: site,
-                    shown: site,
-                    part: Part::Value,
-                    other,
-                });
-            }
+        if let Some(finding) = twice_in(document, word, text, distinct_keys(word)) {
+            return Some(finding);
+        }
+    }
+    None
+}
+
+/// Returns the key of a local port if one of some earlier ones is the same, with that of its first use.
+fn shared_with(
+    document: &Table,
+    earlier: &[PortUse<'_>],
+    of: PortUse<'_>,
+) -> Option<Finding<'static>>
+    requires earlier { All (IsUse (table_view document.now)) earlier.now }
+    requires of { IsUse (table_view document.now) of }
+    ensures { IfSome result (IsLinkEnd (table_view document.now)) }
+{
+    match same_use(earlier, &of) {
+        Some(other) => Some(at_site(of.site(), Part::Value, Some(other.site()))),
+        None => None,
+    }
+}
+
+/// Returns the key of the first of some local ports that is used a second time, with that of its first use.
+fn shared_among(document: &Table, uses: &[PortUse<'_>]) -> Option<Finding<'static>>
+    requires { All (IsUse (table_view document.now)) uses.now }
+    ensures { IfSome result (IsLinkEnd (table_view document.now)) }
+{
+    for (index, of) in uses.iter().enumerate() {
+        if let Some(finding) = shared_with(document, &uses[..index], *of) {
+            return Some(finding);
         }
     }
     None
 }
 
 /// Returns the key of the first local port that is used a second time.
-fn link_end(alloc: Global, document: &Table) -> Result<Option<Finding<'static>>, Memory> {
+fn link_end(alloc: Global, document: &Table) -> Result<Option<Finding<'static>>, Memory>
+    ensures { IfOk result (λ o. IfSome o (IsLinkEnd (table_view document.now))) }
+{
     let uses = uses_of(alloc, document)?;
-    let uses = uses.as_slice();
-    for (index, of) in uses.iter().enumerate() {
-        if let Some(earlier) = same_use(&uses[..index], of) {
-            let site = of.site();
-            let other = Some(earlier.site());
-            return Ok(Some(Finding {
-                about: site,
-                shown: site,
-                part: Part::Value,
-                other,
-            }));
-        }
-    }
-    Ok(None)
+    Ok(shared_among(document, uses.as_slice()))
 }
 
 /// Returns the maximum number of tables in an array.
-pub(crate) fn most_of(word: &str) -> usize {
+pub(crate) fn most_of(word: &str) -> usize
+    ensures { result ≡ most_of word.now }
+{
     match word {
         "bridge" => 32,
         "link" | "service" => 64,
@@ -182,13 +266,40 @@ pub(crate) fn most_of(word: &str) -> usize {
 }
 
 /// Returns the first table too many.
-fn too_many(document: &Table) -> Option<Finding<'static>> {
+fn too_many(document: &Table) -> Option<Finding<'static>>
+    ensures { IfSome result (IsExcess (table_view document.now)) }
+{
     for word in SECTIONS {
         if row_at(document, word, most_of(word)).is_some() {
-            return Some(at_key(Site::Row(word, most_of(word)), Part::Whole));
+            return Some(at_site(Site::Row(word, most_of(word)), Part::Whole, None));
         }
     }
     None
+}
+
+/// Returns the finding of a key that is missing.
+fn missing(path: &str) -> Finding<'_>
+    ensures about { IsSiteOf path.now result.about }
+    ensures shown { result.shown ≡ table_of result.about }
+    ensures part { result.part ≡ Part.Whole }
+    ensures other { result.other ≡ None }
+{
+    let about = site_of(path);
+    Finding {
+        about,
+        shown: table_of(about),
+        part: Part::Whole,
+        other: None,
+    }
+}
+
+/// Returns the finding of the key of a path.
+fn at_path(path: &str, part: Part) -> Finding<'_>
+    ensures about { IsSiteOf path.now result.about }
+    ensures at { IsAt result part }
+    ensures other { result.other ≡ None }
+{
+    at_site(site_of(path), part, None)
 }
 
 /// Returns the key or table at which a document breaks a rule, if it is there.
@@ -200,21 +311,15 @@ pub(crate) fn finding_of<'a>(
     alloc: Global,
     document: &Table,
     fault: &'a PlanFault,
-) -> Result<Option<Finding<'a>>, Memory> {
+) -> Result<Option<Finding<'a>>, Memory>
+    ensures { IfOk result (λ o.
+        MatchOption o (has_path fault.now ≡ false) (IsFinding (table_view document.now) fault.now)) }
+{
     match fault {
-        PlanFault::Missing(path) => {
-            let about = site_of(path.as_str());
-            Ok(Some(Finding {
-                about,
-                shown: table_of(about),
-                part: Part::Whole,
-                other: None,
-            }))
-        }
-        PlanFault::Kind(path) | PlanFault::Range(path) => {
-            Ok(Some(at_key(site_of(path.as_str()), Part::Value)))
-        }
-        PlanFault::Unknown(path) => Ok(Some(at_key(site_of(path.as_str()), Part::Key))),
+        PlanFault::Missing(path) => Ok(Some(missing(path.as_str()))),
+        PlanFault::Kind(path) => Ok(Some(at_path(path.as_str(), Part::Value))),
+        PlanFault::Range(path) => Ok(Some(at_path(path.as_str(), Part::Value))),
+        PlanFault::Unknown(path) => Ok(Some(at_path(path.as_str(), Part::Key))),
         PlanFault::Twice(name) => Ok(twice(document, name.as_str())),
         PlanFault::NoSuch(name) => Ok(no_such(document, name.as_str())),
         PlanFault::LinkEnd => link_end(alloc, document),

@@ -1,57 +1,104 @@
 //! The hints of errors.
 
+ghost use Rattle.std.specs.Prelude.{◌≡◌, map, option_map, string_bytes, IfOk, IfSome};
+ghost use Rattle.toml.specs.View.{table_view};
+ghost use Rattle.pb_plan_errors.specs.Hints.{meant, has_it, TellsLine, TellsOther, IsHint};
+ghost use Rattle.pb_plan_errors.specs.Rules.{keys_of};
+
 use crate::finding::Finding;
-use crate::names::{named_by, names_of};
+use crate::marking::line_of;
+use crate::names::{name_at, named_by, names_of};
 use crate::path::word_and_key;
-use crate::row::text_at;
-use crate::rule::rules_of;
-use pb_diagnostics::{Part, Site, mark_of, nearest, place_of, row_at, statement_of};
+use crate::rule::{Rule, rules_of};
+use pb_diagnostics::{Site, nearest};
 use pb_frame::Memory;
 use pb_service::PlanFault;
 use std::alloc::Global;
 use toml::Table;
 
 /// Returns the hint that another name was meant, if one of the names is near.
-fn meant(alloc: Global, names: &[&str], text: &str) -> Result<Option<String>, Memory> {
+fn meant(alloc: Global, names: &[&str], text: &str) -> Result<Option<String>, Memory>
+    ensures { IfOk result (λ hint. option_map string_bytes hint ≡ meant text.now (map (λ n. n.now) names.now)) }
+{
     match nearest(alloc, names, text)? {
         Some(near) => Ok(Some(format!(in alloc; "did you mean \"{near}\"?")?)),
         None => Ok(None),
     }
 }
 
-/// Returns the hint that another key was meant, if a key of the table is near.
-fn meant_key(alloc: Global, word: &str, key: &str) -> Result<Option<String>, Memory> {
+/// Returns the keys of some rules.
+fn keys_of(alloc: Global, rules: &[Rule]) -> Result<Vec<&'static str>, Memory>
+    ensures { IfOk result (λ keys. map (λ k. k.now) keys.items ≡ map (λ r. r.key.now) rules.now) }
+{
     let mut keys = Vec::new(alloc);
-    for rule in rules_of(word) {
+    for rule in rules {
         keys.push(rule.key)?;
     }
+    Ok(keys)
+}
+
+/// Returns the hint that another key was meant, if a key of the table is near.
+fn meant_key(alloc: Global, word: &str, key: &str) -> Result<Option<String>, Memory>
+    ensures { IfOk result (λ hint. option_map string_bytes hint ≡ meant key.now (keys_of word.now)) }
+{
+    let keys = keys_of(alloc, rules_of(word))?;
     meant(alloc, keys.as_slice(), key)
 }
 
-/// Returns the number of the line of a key or table, if it has one.
-fn line_of(alloc: Global, file: &[u8], site: Site<'_>) -> Result<Option<usize>, Memory> {
-    let Some(statement) = statement_of(alloc, file, site)? else {
-        return Ok(None);
-    };
-    let mark = mark_of(alloc, file, &statement, Part::Whole)?;
-    Ok(Some(place_of(alloc, file, &mark)?.line))
+/// Returns the hint that a table has the value, at a line.
+fn has_it(alloc: Global, word: &str, name: &str, line: usize) -> Result<String, Memory>
+    ensures { IfOk result (λ h. string_bytes h ≡ has_it word.now name.now line) }
+{
+    Ok(format!(in alloc; "{word} \"{name}\" has it at line {line}")?)
 }
 
-/// Returns the hint with the line of the earlier key.
+/// Returns the hint with the line of the other key.
 fn other_line(
     alloc: Global,
     file: &[u8],
     document: &Table,
-    other: Site<'_>,
-) -> Result<Option<String>, Memory> {
-    let (Site::RowKey(word, index, _), Some(line)) = (other, line_of(alloc, file, other)?) else {
-        return Ok(None);
-    };
-    let name = match row_at(document, word, index) {
-        Some(row) => text_at(row, "name"),
-        None => "",
-    };
-    Ok(Some(format!(in alloc; "{word} \"{name}\" has it at line {line}")?))
+    word: &str,
+    index: usize,
+    key: &str,
+) -> Result<Option<String>, Memory>
+    ensures { IfOk result (λ hint. IfSome hint (λ h.
+        TellsLine file.now (table_view document.now) (Site.RowKey word.entry index key.entry) (string_bytes h))) }
+{
+    match line_of(alloc, file, Site::RowKey(word, index, key))? {
+        Some(line) => Ok(Some(has_it(alloc, word, name_at(document, word, index), line)?)),
+        None => Ok(None),
+    }
+}
+
+/// Returns the hint with the line of a key of another table.
+fn site_hint(
+    alloc: Global,
+    file: &[u8],
+    document: &Table,
+    site: Site<'_>,
+) -> Result<Option<String>, Memory>
+    ensures { IfOk result (λ hint. IfSome hint (λ h.
+        TellsLine file.now (table_view document.now) site.entry (string_bytes h))) }
+{
+    match site {
+        Site::RowKey(word, index, key) => other_line(alloc, file, document, word, index, key),
+        Site::Key(_) | Site::TableKey(_, _) | Site::Row(_, _) => Ok(None),
+    }
+}
+
+/// Returns the hint with the line of the other key of a finding, if it has one.
+fn other_hint(
+    alloc: Global,
+    file: &[u8],
+    document: &Table,
+    other: Option<Site<'_>>,
+) -> Result<Option<String>, Memory>
+    ensures { IfOk result (TellsOther file.now (table_view document.now) other.entry) }
+{
+    match other {
+        Some(site) => site_hint(alloc, file, document, site),
+        None => Ok(None),
+    }
 }
 
 /// Returns the hint of an error, if there is one: the nearest name or key, or the line of the other use.
@@ -65,7 +112,9 @@ pub(crate) fn hint_of(
     document: &Table,
     fault: &PlanFault,
     finding: &Finding<'_>,
-) -> Result<Option<String>, Memory> {
+) -> Result<Option<String>, Memory>
+    ensures { IfOk result (IsHint file.now (table_view document.now) fault.now finding.now) }
+{
     let (word, key) = word_and_key(finding.about);
     match fault {
         PlanFault::Unknown(_) => meant_key(alloc, word, key),
@@ -73,9 +122,15 @@ pub(crate) fn hint_of(
             let names = names_of(alloc, document, named_by(key))?;
             meant(alloc, names.as_slice(), name.as_str())
         }
-        _ => match finding.other {
-            Some(other) => other_line(alloc, file, document, other),
-            None => Ok(None),
-        },
+        PlanFault::Twice(_) | PlanFault::LinkEnd => {
+            other_hint(alloc, file, document, finding.other)
+        }
+        PlanFault::Missing(_)
+        | PlanFault::Kind(_)
+        | PlanFault::Range(_)
+        | PlanFault::TooMany
+        | PlanFault::Utf8
+        | PlanFault::Toml
+        | PlanFault::Memory => Ok(None),
     }
 }

@@ -9,6 +9,7 @@ mod ends;
 mod error;
 mod finding;
 mod hint;
+mod marking;
 mod message;
 mod names;
 mod path;

@@ -1,11 +1,15 @@
 //! The messages of errors.
 
-ghost use Rattle.std.specs.Prelude.{◌≡◌, ◌++◌, List, ℕ, string_bytes, OnOk};
+ghost use Rattle.std.specs.Prelude.{◌≡◌, ◌++◌, List, ℕ, string_bytes, option_map, OnOk};
 ghost use Rattle.toml.specs.View.{table_view};
-ghost use Rattle.pb_plan_errors.specs.Messages.{named, placed, is_not, name_at, row_subject, subject, IsMessage};
+ghost use Rattle.pb_plan_errors.specs.Messages.{named, placed, is_not, row_subject, subject, shared_port, shared};
+ghost use Rattle.pb_plan_errors.specs.Messages.{table_of_key, IsWrong, IsMessage};
+ghost use Rattle.pb_plan_errors.specs.Paths.{key_of};
+ghost use Rattle.pb_plan_errors.specs.Rows.{name_at};
 
-use crate::finding::{Finding, most_of};
-use crate::names::named_by;
+use crate::ends::bridge_key;
+use crate::finding::most_of;
+use crate::names::{name_at, named_by};
 use crate::path::word_and_key;
 use crate::row::{integer_at, text_at};
 use crate::rule::rule_of;
@@ -36,10 +40,7 @@ fn put_row(out: &mut String, document: &Table, word: &str, index: usize) -> Resu
     ensures { OnOk result (string_bytes out.new ≡ string_bytes out.old
         ++ row_subject word.now index (name_at (table_view document.now) word.now index)) }
 {
-    let name = match row_at(document, word, index) {
-        Some(row) => text_at(row, "name"),
-        None => "",
-    };
+    let name = name_at(document, word, index);
     if is_name(name.as_bytes()) {
         put_named(out, word, name)
     } else {
@@ -75,7 +76,9 @@ fn put_is_not(out: &mut String, key: &str, value: &str, wanted: &str) -> Result<
 }
 
 /// Returns the table of a key, if it is there.
-fn table_of_key<'a>(document: &'a Table, site: Site<'_>) -> Option<&'a Table> {
+fn table_of_key<'a>(document: &'a Table, site: Site<'_>) -> Option<&'a Table>
+    ensures { option_map (λ t. table_view t.now) result ≡ table_of_key (table_view document.now) site.entry }
+{
     match site {
         Site::Key(_) | Site::Row(_, _) => None,
         Site::TableKey(word, _) => table_at(document, word),
@@ -124,40 +127,38 @@ fn kind_of(site: Site<'_>) -> &'static str {
 }
 
 /// Appends that a local port is used twice.
-fn put_link_end(out: &mut String, document: &Table, site: Site<'_>) -> Result<(), Memory> {
-    let (_, key) = word_and_key(site);
-    let bridge_key = match key {
-        "a_port" => "a",
-        "b_port" => "b",
-        _ => "bridge",
-    };
-    let Some(row) = table_of_key(document, site) else {
-        return Ok(());
-    };
-    let port = integer_at(row, key);
-    let bridge = text_at(row, bridge_key);
+fn put_shared_port(out: &mut String, port: i64, bridge: &str) -> Result<(), Memory>
+    ensures { OnOk result (string_bytes out.new ≡ string_bytes out.old ++ shared_port port bridge.now) }
+{
     write!(out, "port {port} of bridge \"{bridge}\" is used twice")?;
     Ok(())
 }
 
-/// Appends what is wrong at a key or table. `value` is the text of the value in the file, or the empty text.
-///
-/// # Errors
-///
-/// `Memory` if an allocation failed.
-pub(crate) fn put_message(
+/// Appends that the local port of a key is used twice.
+fn put_shared(out: &mut String, document: &Table, site: Site<'_>) -> Result<(), Memory>
+    ensures { OnOk result (string_bytes out.new ≡ string_bytes out.old
+        ++ shared (table_of_key (table_view document.now) site.entry) (key_of site.entry)) }
+{
+    let Some(row) = table_of_key(document, site) else {
+        return Ok(());
+    };
+    let (_, key) = word_and_key(site);
+    put_shared_port(out, integer_at(row, key), text_at(row, bridge_key(key)))
+}
+
+/// Appends what is wrong at a key or table, without the table. `value` is the text of the value in the file, or the
+/// empty text.
+fn put_wrong(
     out: &mut String,
     document: &Table,
     fault: &PlanFault,
-    finding: &Finding<'_>,
+    site: Site<'_>,
     value: &str,
 ) -> Result<(), Memory>
     ensures { OnOk result ((text : List ℕ) × (string_bytes out.new ≡ string_bytes out.old ++ text)
-        × IsMessage (table_view document.now) fault.now finding.now.about value.now text) }
+        × IsWrong (table_view document.now) fault.now site.entry value.now text) }
 {
-    let site = finding.about;
     let (word, key) = word_and_key(site);
-    put_subject(out, document, site)?;
     match fault {
         PlanFault::Missing(_) => write!(out, "{key} is missing")?,
         PlanFault::Kind(_) => put_is_not(out, key, value, kind_of(site))?,
@@ -172,12 +173,31 @@ pub(crate) fn put_message(
             let name = name.as_str();
             write!(out, "no {part} is named \"{name}\"")?;
         }
-        PlanFault::LinkEnd => put_link_end(out, document, site)?,
+        PlanFault::LinkEnd => put_shared(out, document, site)?,
         PlanFault::TooMany => {
             let most = most_of(word);
             write!(out, "more than {most} tables [[{word}]]")?;
         }
-        PlanFault::Utf8 | PlanFault::Toml | PlanFault::Memory => write!(out, "{fault}")?,
+        PlanFault::Utf8 | PlanFault::Toml | PlanFault::Memory => {}
     }
     Ok(())
+}
+
+/// Appends the message for a fault at a key or table. `value` is the text of the value in the file, or the empty text.
+///
+/// # Errors
+///
+/// `Memory` if an allocation failed.
+pub(crate) fn put_message(
+    out: &mut String,
+    document: &Table,
+    fault: &PlanFault,
+    site: Site<'_>,
+    value: &str,
+) -> Result<(), Memory>
+    ensures { OnOk result ((text : List ℕ) × (string_bytes out.new ≡ string_bytes out.old ++ text)
+        × IsMessage (table_view document.now) fault.now site.entry value.now text) }
+{
+    put_subject(out, document, site)?;
+    put_wrong(out, document, fault, site, value)
 }

@@ -2,8 +2,9 @@
 
 ghost use Rattle.std.specs.Prelude.{◌≡◌, option_map};
 ghost use Rattle.toml.specs.Data.{get_member};
-ghost use Rattle.toml.specs.View.{view, table_view};
-ghost use Rattle.pb_service.specs.Tables.{text_at};
+ghost use Rattle.toml.specs.View.{view, items_view, table_view};
+ghost use Rattle.pb_plan_errors.specs.Rows.{integer_at};
+ghost use Rattle.pb_service.specs.Tables.{text_at, items_at};
 ghost use Rattle.pb_service.specs.Values.{text_in};
 
 use toml::{Table, Value};
@@ -36,16 +37,20 @@ pub(crate) fn text_at<'a>(row: &'a Table, key: &str) -> &'a str
 }
 
 /// Returns the integer at a key, or 0 if there is none.
-pub(crate) fn integer_at(row: &Table, key: &str) -> i64 {
-    match row.get(key) {
+pub(crate) fn integer_at(row: &Table, key: &str) -> i64
+    ensures { result ≡ integer_at (table_view row.now) key.now }
+{
+    match value_at(row, key) {
         Some(value) => value.as_integer().unwrap_or(0),
         None => 0,
     }
 }
 
 /// Returns the items of the array at a key, or no items if there is none.
-pub(crate) fn items_at<'a>(row: &'a Table, key: &str) -> &'a [Value] {
-    match row.get(key) {
+pub(crate) fn items_at<'a>(row: &'a Table, key: &str) -> &'a [Value]
+    ensures { items_view result.now ≡ items_at (table_view row.now) key.now }
+{
+    match value_at(row, key) {
         Some(value) => match value.as_array() {
             Some(items) => items.as_slice(),
             None => &[],

@@ -1,5 +1,8 @@
 //! What the value of a key must be, in words.
 
+ghost use Rattle.std.specs.Prelude.{◌≡◌, map};
+ghost use Rattle.pb_plan_errors.specs.Rules.{keys_of};
+
 /// What the value of a key must be.
 #[derive(Clone, Copy)]
 pub(crate) struct Rule {
@@ -139,16 +142,26 @@ static TOP: [Rule; 7] = [
 
 /// Returns the rules of the keys of a table, by the key of the table or array of tables. Those at the top have the empty
 /// text.
-pub(crate) fn rules_of(word: &str) -> &'static [Rule] {
-    match word {
-        "network" => &NETWORK,
-        "bridge" => &BRIDGE,
-        "link" => &LINK,
-        "service" => &SERVICE,
-        "port" => &PORTS,
-        "event" => &EVENT,
-        "accept" => &ACCEPT,
-        _ => &TOP,
+#[tactic(auto, unfolding(crate::specs::Rules::keys_of))]
+pub(crate) fn rules_of(word: &str) -> &'static [Rule]
+    ensures { map (λ r. r.key.now) result.now ≡ keys_of word.now }
+{
+    if word == "network" {
+        &NETWORK
+    } else if word == "bridge" {
+        &BRIDGE
+    } else if word == "link" {
+        &LINK
+    } else if word == "service" {
+        &SERVICE
+    } else if word == "port" {
+        &PORTS
+    } else if word == "event" {
+        &EVENT
+    } else if word == "accept" {
+        &ACCEPT
+    } else {
+        &TOP
     }
 }
 

@@ -67,8 +67,8 @@ fn is_vid(document: &Table, vid: i64) -> bool {
 
 /// Returns the greatest VID that no service has, or 1.
 pub(crate) fn spare_vid(document: &Table) -> i64 {
-    for below in 0..4094 {
-        let vid = 4094 - below;
+    for below in 0..4094u16 {
+        let vid = i64::from(4094 - below);
         if !is_vid(document, vid) {
             return vid;
         }

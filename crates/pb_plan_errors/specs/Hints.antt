@@ -1,0 +1,42 @@
+-- The hints of errors.
+use Rattle.std.specs.Prelude.{◌≡◌, ℕ, List, codes, ◌++◌, string_bytes, option_map, Option, Some, None, IfSome, String}
+use Rattle.std.specs.Fmt.{decimal}
+use Rattle.std.specs.declared.alloc.Global.{Global}
+use Rattle.toml.specs.Data.{Members}
+use Rattle.pb_diagnostics.specs.Nearest.{nearest}
+use Rattle.pb_diagnostics.specs.declared.site.Site.{Site}
+use Rattle.pb_diagnostics.specs.declared.site.Site.TheVariants.{RowKey}
+use Rattle.pb_service.specs.declared.fault.PlanFault.{PlanFault}
+use Rattle.pb_service.specs.declared.fault.PlanFault.TheVariants.{Unknown, Twice, NoSuch, LinkEnd}
+use Rattle.pb_plan_errors.specs.Marks.{IsLineOf}
+use Rattle.pb_plan_errors.specs.Paths.{word_of, key_of}
+use Rattle.pb_plan_errors.specs.Rows.{name_at, names_at, named_by}
+use Rattle.pb_plan_errors.specs.Rules.{keys_of}
+use Rattle.pb_plan_errors.specs.declared.finding.Finding.{Finding}
+
+-- another name was meant: the nearest one
+abbrev pub meant : List ℕ → List (List ℕ) → Option (List ℕ)
+meant text names = option_map (λ near. codes "did you mean \"" ++ near ++ codes "\"?") (nearest text names)
+
+-- a table by its kind and its name has the value, at a line
+abbrev pub has_it : List ℕ → List ℕ → ℕ → List ℕ
+has_it word name line = word ++ codes " \"" ++ name ++ codes "\" has it at line " ++ decimal line
+
+-- another table has the value, at its line of the file
+abbrev pub TellsLine : List ℕ → Members → Site → List ℕ → Type 0
+TellsLine file document (RowKey word index key) text =
+    (line : ℕ) × IsLineOf file (RowKey word index key) line × (text ≡ has_it word.now (name_at document word.now index) line)
+TellsLine file document other text = ⊥
+
+-- the hint names the other key of the finding by its line, if it has one
+abbrev pub TellsOther : List ℕ → Members → Option Site → Option (String Global) → Type 0
+TellsOther file document None hint = hint ≡ None
+TellsOther file document (Some other) hint = IfSome hint (λ h. TellsLine file document other (string_bytes h))
+
+-- the hint for a fault: the nearest key of the table, the nearest name of the plan, or the line of the other key
+abbrev pub IsHint : List ℕ → Members → PlanFault → Finding → Option (String Global) → Type 0
+IsHint file document (Unknown path) f hint = option_map string_bytes hint ≡ meant (key_of f.about) (keys_of (word_of f.about))
+IsHint file document (NoSuch name) f hint = option_map string_bytes hint ≡ meant name (names_at document (named_by (key_of f.about)))
+IsHint file document (Twice name) f hint = TellsOther file document f.other hint
+IsHint file document LinkEnd f hint = TellsOther file document f.other hint
+IsHint file document fault f hint = hint ≡ None
