@@ -263,8 +263,8 @@ const CHANGE: &str =
     service blue: bridge B1 down: no longer forms a forwarding loop\n\
     link L2 with nothing down: a root forwarding, b designated forwarding -> a forwarding, b discarding\n\
     nothing down: bridges now converge\nlink L2 down: bridges no longer converge\n\
-    link L2 down: worse\nlinks L2 L3 down: better and worse\nbridge B1 down: no change\n\
     most ticks to convergence: 7 -> none\n\
+    link L2 down: worse\nlinks L2 L3 down: better and worse\nbridge B1 down: no change\n\
     better: 1 of 5 failures; worse: 0 of 5 failures; with nothing down: worse\n";
 
 /// The reports of `diff`.
