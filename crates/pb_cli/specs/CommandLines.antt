@@ -1,11 +1,14 @@
 -- The command lines that the program accepts.
 use Rattle.std.specs.Prelude.{◌≡◌, ◌⊎◌, ℕ, ◌≤◌, List, Some, None, IfSome, codes, string_bytes}
 use Rattle.std.specs.declared.option.Option.{Option}
+use Rattle.pb_cli.specs.declared.frame_arguments.TraceFrame.{TraceFrame}
 use Rattle.pb_cli.specs.declared.init_options.InitNetwork.{InitNetwork}
 use Rattle.pb_cli.specs.declared.init_options.InitNetwork.TheVariants.{Line, Ring, Star, DualHomed}
 use Rattle.pb_cli.specs.declared.init_options.InitOptions.{InitOptions}
+use Rattle.pb_cli.specs.declared.trace_options.TraceOptions.{TraceOptions}
 use Rattle.pb_cli.specs.declared.command_line.CommandLine.{CommandLine}
-use Rattle.pb_cli.specs.declared.command_line.CommandLine.TheVariants.{Flat, Check, Step, Run, Tree, Trace, Show, Init, Survive, Diff, Draw, Control}
+use Rattle.pb_cli.specs.declared.command_line.CommandLine.TheVariants.{Flat, Check, Step, Run, Tree, Trace}
+use Rattle.pb_cli.specs.declared.command_line.CommandLine.TheVariants.{Show, Init, Survive, Diff, Draw, Control}
 
 -- a run is stopped after 1 to 1,000,000,000 seconds, or not
 abbrev pub AreSeconds : Option ℕ → Type 0
@@ -43,6 +46,21 @@ AreServices services = (1 ≤ services) × (services ≤ 4)
 abbrev pub AreInitOptions : InitOptions → Type 0
 AreInitOptions options = IsNetwork options.network × AreServices options.services
 
+-- a priority is 0 to 7
+abbrev pub IsPriority : ℕ → Type 0
+IsPriority pcp = pcp ≤ 7
+
+-- a frame is filled with zeros to 14 to 65,535 octets
+abbrev pub IsLength : ℕ → Type 0
+IsLength length = (14 ≤ length) × (length ≤ 65535)
+
+-- the numbers among the options that describe a frame
+abbrev pub AreFrameOptions : TraceFrame → Type 0
+AreFrameOptions frame = IfSome frame.pcp IsPriority × IfSome frame.length IsLength
+
+abbrev pub AreTraceOptions : TraceOptions → Type 0
+AreTraceOptions trace = IfSome trace.settle AreTicks × IfSome trace.frame AreFrameOptions
+
 -- the numbers of a command line are in their ranges
 abbrev pub HasValidArguments : CommandLine → Type 0
 HasValidArguments (Flat ports) = (2 ≤ ports) × (ports ≤ 16)
@@ -50,7 +68,7 @@ HasValidArguments (Check options) = IfSome options.settle AreTicks
 HasValidArguments (Step report) = Unit {0}
 HasValidArguments (Run run) = AreSeconds run.seconds × IsLinger run.linger
 HasValidArguments (Tree tree) = AreTicks tree.ticks
-HasValidArguments (Trace trace) = IfSome trace.settle AreTicks
+HasValidArguments (Trace trace) = AreTraceOptions trace
 HasValidArguments Show = Unit {0}
 HasValidArguments (Init options) = AreInitOptions options
 HasValidArguments (Survive options) = AreTicks options.ticks
@@ -65,9 +83,10 @@ IsPlanCommandLine command path (Check options) =
 IsPlanCommandLine command path (Step report) = (command ≡ codes "step") × (string_bytes report.path ≡ path)
 IsPlanCommandLine command path (Run run) =
     (command ≡ codes "run") × (string_bytes run.path ≡ path) × AreSeconds run.seconds × IsLinger run.linger
-IsPlanCommandLine command path (Tree tree) = (command ≡ codes "tree") × (string_bytes tree.path ≡ path) × AreTicks tree.ticks
+IsPlanCommandLine command path (Tree tree) =
+    (command ≡ codes "tree") × (string_bytes tree.path ≡ path) × AreTicks tree.ticks
 IsPlanCommandLine command path (Trace trace) =
-    (command ≡ codes "trace") × (string_bytes trace.path ≡ path) × IfSome trace.settle AreTicks
+    (command ≡ codes "trace") × (string_bytes trace.path ≡ path) × AreTraceOptions trace
 IsPlanCommandLine command path (Survive options) =
     (command ≡ codes "survive") × (string_bytes options.path ≡ path) × AreTicks options.ticks
 IsPlanCommandLine command path (Draw options) =

@@ -77,7 +77,7 @@ pub(crate) const SETTLE_LIMIT: Argument = Argument {
 pub(crate) const ALL_FAILURES: Argument = Argument {
     name: "all-failures",
     value: "",
-    help: "Report also the failures that change nothing; JSON always does",
+    help: "Report every failure, also those that change nothing; JSON always does",
     takes: Takes::Nothing,
     excludes: &[],
 };

@@ -17,7 +17,7 @@ pub(crate) const CHECK: &str = "Validate a plan and report forwarding loops";
 const STRICT: &str = "Exit with status 4 if there is a warning";
 
 /// The help of `--settle`.
-const SETTLE: &str = "Also report the forest after convergence, after at most N ticks of --ticks";
+const SETTLE: &str = "Also report the forest after convergence; --ticks limits the wait";
 
 /// The help of `--all`.
 const ALL: &str = "Report all errors of the plan, at most 50";

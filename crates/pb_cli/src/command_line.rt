@@ -1,31 +1,25 @@
-//! The commands, and the parser of the command line.
+//! The command line, and its parser.
 
 ghost use Rattle.std.specs.Prelude.{IfOk, IfSome};
 ghost use Rattle.pb_cli.specs.CommandLines.{HasValidArguments, IsPlanCommandLine};
 
-use crate::check_options::{self, CHECK, CheckOptions, check_options};
-use crate::control_options::{self, CONTROL, ControlOptions, control_options};
-use crate::diff_options::{self, DIFF, DiffOptions, diff_options};
-use crate::draw_options::{self, DRAW, DrawOptions, draw_options};
-use crate::init_options::{self, INIT, InitOptions, init_options};
+use crate::check_options::{CheckOptions, check_options};
+use crate::commands::{with_planning, with_running};
+use crate::control_options::{ControlOptions, control_options};
+use crate::diff_options::{DiffOptions, diff_options};
+use crate::draw_options::{DrawOptions, draw_options};
+use crate::init_options::{InitOptions, init_options};
 use crate::plan_help::plan_help;
-use crate::report_options::{self, ReportOptions, STEP, report_options};
-use crate::run_options::{self, RUN, RunOptions, run_options};
-use crate::survive_options::{self, SURVIVE, SurviveOptions, survive_options};
-use crate::table::{Argument, CommandRow, Takes, with_commands};
-use crate::trace_options::{self, TRACE, TraceOptions, trace_options};
-use crate::tree_options::{self, TREE, TreeOptions, tree_options};
+use crate::report_options::{ReportOptions, report_options};
+use crate::run_options::{RunOptions, run_options};
+use crate::survive_options::{SurviveOptions, survive_options};
+use crate::trace_options::{TraceOptions, trace_options};
+use crate::tree_options::{TreeOptions, tree_options};
 use clap::{ArgMatches, Command, Error};
 use std::alloc::{AllocError, Global};
 
 /// The version of the program.
 pub const VERSION: &str = "0.7.0";
-
-/// The help of `flat`.
-const FLAT: &str = "Run one bridge on `in PORT HEX` lines from standard input";
-
-/// The help of `show`.
-const SHOW: &str = "Print how reserved group addresses are handled";
 
 /// A parsed command line: the command with its options.
 #[derive(PartialEq, Eq, Debug, Drop)]
@@ -56,79 +50,6 @@ pub enum CommandLine {
     Control(ControlOptions),
 }
 
-/// The argument of `flat`.
-const PORTS: Argument = Argument {
-    name: "PORTS",
-    value: "",
-    help: "Number of ports of the bridge [range: 2-16]",
-    takes: Takes::SmallPlace(2, 16),
-    excludes: &[],
-};
-
-/// The commands, in the order of the help.
-const COMMANDS: &[CommandRow] = &[
-    CommandRow {
-        name: "flat",
-        about: FLAT,
-        arguments: &[PORTS],
-    },
-    CommandRow {
-        name: "check",
-        about: CHECK,
-        arguments: check_options::ARGUMENTS,
-    },
-    CommandRow {
-        name: "step",
-        about: STEP,
-        arguments: report_options::ARGUMENTS,
-    },
-    CommandRow {
-        name: "run",
-        about: RUN,
-        arguments: run_options::ARGUMENTS,
-    },
-    CommandRow {
-        name: "control",
-        about: CONTROL,
-        arguments: control_options::ARGUMENTS,
-    },
-    CommandRow {
-        name: "tree",
-        about: TREE,
-        arguments: tree_options::ARGUMENTS,
-    },
-    CommandRow {
-        name: "survive",
-        about: SURVIVE,
-        arguments: survive_options::ARGUMENTS,
-    },
-    CommandRow {
-        name: "diff",
-        about: DIFF,
-        arguments: diff_options::ARGUMENTS,
-    },
-    CommandRow {
-        name: "draw",
-        about: DRAW,
-        arguments: draw_options::ARGUMENTS,
-    },
-    CommandRow {
-        name: "trace",
-        about: TRACE,
-        arguments: trace_options::ARGUMENTS,
-    },
-    CommandRow {
-        name: "show",
-        about: SHOW,
-        arguments: &[],
-    },
-    CommandRow {
-        name: "init",
-        about: INIT,
-        arguments: init_options::ARGUMENTS,
-    },
-];
-
 /// Returns the parser of the program, with all commands.
 ///
 /// # Errors
@@ -140,7 +61,7 @@ fn commands<'a>(alloc: Global) -> Result<Command<'a>, Error> {
         .about("A provider bridged Ethernet network in one process")
         .after_help("`pbnet help plan` prints the keys of a plan file.")
         .subcommand_required(true);
-    let program = with_commands(alloc, program, COMMANDS)?;
+    let program = with_planning(alloc, with_running(alloc, program)?)?;
     Ok(program.subcommand(plan_help(alloc))?)
 }
 

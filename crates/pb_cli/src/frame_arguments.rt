@@ -1,6 +1,7 @@
 //! The options of `trace` that describe a frame.
 
-ghost use Rattle.std.specs.Prelude.{◌≤◌, IfOk, IfSome};
+ghost use Rattle.std.specs.Prelude.{IfOk, IfSome};
+ghost use Rattle.pb_cli.specs.CommandLines.{AreFrameOptions, IsLength, IsPriority};
 
 use crate::arguments::text_of;
 use crate::table::{Argument, Takes};
@@ -9,6 +10,12 @@ use std::alloc::{AllocError, Global};
 
 /// The largest priority.
 const MOST_PRIORITY: u8 = 7;
+
+/// The least value of `--length`: two addresses and a type.
+const LEAST_LENGTH: u32 = 14;
+
+/// The largest value of `--length`.
+const MOST_LENGTH: u32 = 65_535;
 
 /// The argument for the destination address.
 pub(crate) const TO: Argument = Argument {
@@ -31,8 +38,8 @@ pub(crate) const FROM: Argument = Argument {
 /// The argument for the customer's tag.
 pub(crate) const CTAG: Argument = Argument {
     name: "ctag",
-    value: "VID[:PCP]",
-    help: "Customer's tag [range: VID 0-4094, PCP 0-7]",
+    value: "TAG",
+    help: "Customer's tag, VID or VID:PCP [default: no tag, PCP 0] [range: VID 0-4094, PCP 0-7]",
     takes: Takes::Text,
     excludes: &["HEX"],
 };
@@ -41,7 +48,7 @@ pub(crate) const CTAG: Argument = Argument {
 pub(crate) const PCP: Argument = Argument {
     name: "pcp",
     value: "N",
-    help: "Priority tag: an S-tag with VID 0 and this priority [range: 0-7]",
+    help: "Priority tag: an S-tag with VID 0 and this priority [default: no tag] [range: 0-7]",
     takes: Takes::Small(0, 7),
     excludes: &["HEX"],
 };
@@ -59,7 +66,7 @@ pub(crate) const BPDU: Argument = Argument {
 pub(crate) const ETHERTYPE: Argument = Argument {
     name: "ethertype",
     value: "HHHH",
-    help: "EtherType in four hexadecimal digits [default: 0800]",
+    help: "EtherType in four hexadecimal digits [default: 0800] [range: 0600-ffff]",
     takes: Takes::Text,
     excludes: &["HEX"],
 };
@@ -68,7 +75,7 @@ pub(crate) const ETHERTYPE: Argument = Argument {
 pub(crate) const LENGTH: Argument = Argument {
     name: "length",
     value: "N",
-    help: "Fill the frame with zeros to N octets [range: 14-65535]",
+    help: "Fill the frame with zeros to N octets [default: not filled] [range: 14-65535]",
     takes: Takes::Number(14, 65_535),
     excludes: &["HEX"],
 };
@@ -88,16 +95,26 @@ pub struct TraceFrame {
     pub bpdu: bool,
     /// The EtherType in hexadecimal digits. None: 0800.
     pub ethertype: Option<String>,
-    /// The least number of octets.
+    /// The least number of octets, 14 to 65,535. None: the frame is not filled.
     pub length: Option<u32>,
 }
 
 /// Returns the priority of the priority tag, if it is present.
 fn priority_of(given: &ArgMatches<'_>) -> Option<u8>
-    ensures { IfSome result (λ pcp. pcp ≤ 7) }
+    ensures { IfSome result IsPriority }
 {
     match given.get_one::<u8>("pcp") {
         Some(pcp) if pcp <= MOST_PRIORITY => Some(pcp),
+        _ => None,
+    }
+}
+
+/// Returns the least number of octets, if it is present.
+fn length_of(given: &ArgMatches<'_>) -> Option<u32>
+    ensures { IfSome result IsLength }
+{
+    match given.get_one::<u32>("length") {
+        Some(length) if LEAST_LENGTH <= length && length <= MOST_LENGTH => Some(length),
         _ => None,
     }
 }
@@ -108,7 +125,7 @@ fn priority_of(given: &ArgMatches<'_>) -> Option<u8>
 ///
 /// `AllocError` if an allocation failed.
 pub(crate) fn trace_frame(alloc: Global, given: &ArgMatches<'_>) -> Result<TraceFrame, AllocError>
-    ensures { IfOk result (λ frame. IfSome frame.pcp (λ pcp. pcp ≤ 7)) }
+    ensures { IfOk result AreFrameOptions }
 {
     let to = text_of(alloc, given, "to")?;
     let from = text_of(alloc, given, "from")?;
@@ -121,6 +138,6 @@ pub(crate) fn trace_frame(alloc: Global, given: &ArgMatches<'_>) -> Result<Trace
         pcp: priority_of(given),
         bpdu: given.get_flag("bpdu"),
         ethertype,
-        length: given.get_one::<u32>("length"),
+        length: length_of(given),
     })
 }

@@ -5,6 +5,7 @@
 mod arguments;
 mod check_options;
 mod command_line;
+mod commands;
 mod control_options;
 mod diff_options;
 mod draw_options;

@@ -12,7 +12,7 @@ pub(crate) const STEP: &str = "Drive a network event by event from a script on s
 
 /// The help of `--test`.
 const TEST: &str =
-    "Skip lines `# ..`, compare lines `expect ANSWER`, and exit with status 4 after a difference";
+    "Skip lines `# ..`, check lines `expect ANSWER`, and exit with status 4 if there is a finding";
 
 /// The arguments of `step`.
 pub(crate) const ARGUMENTS: &[Argument] = &[

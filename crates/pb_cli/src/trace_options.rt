@@ -1,7 +1,7 @@
 //! The options of `trace`.
 
 ghost use Rattle.std.specs.Prelude.{◌≡◌, IfOk, IfSome, string_bytes};
-ghost use Rattle.pb_cli.specs.CommandLines.{AreTicks};
+ghost use Rattle.pb_cli.specs.CommandLines.{AreTraceOptions};
 
 use crate::arguments::{
     AS_DOCUMENT, DOWNS, PLAN_FILE, ReportFormat, SETTLE_LIMIT, downs_of, report_format_of,
@@ -169,7 +169,7 @@ pub(crate) fn trace_options(
     given: &ArgMatches<'_>,
 ) -> Result<Option<TraceOptions>, AllocError>
     ensures path { IfOk result (λ o. IfSome o (λ trace. string_bytes trace.path ≡ path.now)) }
-    ensures ticks { IfOk result (λ o. IfSome o (λ trace. IfSome trace.settle AreTicks)) }
+    ensures numbers { IfOk result (λ o. IfSome o AreTraceOptions) }
 {
     let Some(port) = given.get_str("PORT") else {
         return Ok(None);

@@ -22,7 +22,9 @@ content_octets Bpdu = 0 ∷ 7 ∷ 66 ∷ 66 ∷ 3 ∷ 0 ∷ 0 ∷ 0 ∷ 128 ∷ 
 
 -- the addresses, the tags of types 88 A8 and 81 00, and what follows
 abbrev pub unpadded : FrameOptions → List ℕ
-unpadded options = options.to.0 ++ options.from.0 ++ tag_octets 34984 options.service ++ tag_octets 33024 options.customer ++ content_octets options.content
+unpadded options =
+    options.to.0 ++ options.from.0 ++ tag_octets 34984 options.service ++ tag_octets 33024 options.customer
+    ++ content_octets options.content
 
 -- the frame with zeros up to its least length
 abbrev pub frame_of : FrameOptions → List ℕ

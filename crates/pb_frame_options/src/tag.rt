@@ -1,8 +1,10 @@
 //! Tags and types in options.
 
-ghost use Rattle.std.specs.Prelude.{◌≡◌, ◌⊎◌, ◌≤◌, ◌<◌, ◌++◌, ◌∷◌, [], codes, IfNone, IfOk, IfSome};
+ghost use Rattle.std.specs.Prelude.{◌≡◌, ◌≤◌, ◌<◌, ◌∷◌, [], ℕ, option_map, IfErr, IfNone, IfOk, IfSome};
 ghost use Rattle.pb_frame.specs.Hex.{IsHex};
-ghost use Rattle.pb_frame_options.specs.Tags.{IsCustomerTagText, IsTypeText, number_of};
+ghost use Rattle.pb_frame_options.specs.Tags.{IsNumberText, IsNoNumber, IsPriorityText, IsCustomerTagText, IsTypeText};
+ghost use Rattle.pb_frame_options.specs.Tags.{vid_text, pcp_text, type_digits};
+ghost use Rattle.pb_frame_options.specs.Tags.{IsVidFault, IsPcpFault, IsTagFault, IsTypeFault};
 
 use crate::address::octet;
 use pb_frame::Tci;
@@ -39,7 +41,8 @@ pub enum TagTextFault {
 
 /// Returns the number of a text in decimal digits, below 2^32. None for any other text.
 fn number_in(text: &str) -> Option<u32>
-    ensures { IfSome result (λ n. number_of text.now ≡ n) }
+    ensures some { IfSome result (IsNumberText text.now) }
+    ensures none { IfNone result (IsNoNumber text.now) }
 {
     text.parse::<u32>().ok()
 }
@@ -50,8 +53,9 @@ fn number_in(text: &str) -> Option<u32>
 ///
 /// `Form` if the text is not digits, `Vid` if the number is above 4094.
 fn vid_in(text: &str) -> Result<u16, TagTextFault>
-    ensures value { IfOk result (λ vid. number_of text.now ≡ vid) }
+    ensures value { IfOk result (IsNumberText text.now) }
     ensures range { IfOk result (λ vid. vid ≤ 4094) }
+    ensures fault { IfErr result (IsVidFault text.now) }
 {
     match number_in(text) {
         None => Err(TagTextFault::Form),
@@ -60,15 +64,19 @@ fn vid_in(text: &str) -> Result<u16, TagTextFault>
     }
 }
 
-/// Returns the priority of a text in decimal digits, 0 to 7.
+/// Returns the priority of a text in decimal digits, 0 to 7. Without a text it is 0.
 ///
 /// # Errors
 ///
 /// `Form` if the text is not digits, `Pcp` if the number is above 7.
-fn pcp_in(text: &str) -> Result<u8, TagTextFault>
-    ensures value { IfOk result (λ pcp. number_of text.now ≡ pcp) }
+fn pcp_in(text: Option<&str>) -> Result<u8, TagTextFault>
+    ensures value { IfOk result (IsPriorityText (option_map (λ t. t.now) text.entry)) }
     ensures range { IfOk result (λ pcp. pcp ≤ 7) }
+    ensures fault { IfErr result (IsPcpFault (option_map (λ t. t.now) text.entry)) }
 {
+    let Some(text) = text else {
+        return Ok(0);
+    };
     match number_in(text) {
         None => Err(TagTextFault::Form),
         Some(pcp) if pcp > LARGEST_PCP => Err(TagTextFault::Pcp(pcp)),
@@ -76,24 +84,29 @@ fn pcp_in(text: &str) -> Result<u8, TagTextFault>
     }
 }
 
+/// Returns the texts before and after the first colon. Without a colon there is no second text.
+fn parts_of(text: &str) -> (&str, Option<&str>)
+    ensures vid { result.0.now ≡ vid_text text.now }
+    ensures pcp { option_map (λ t. t.now) result.1 ≡ pcp_text text.now }
+{
+    match text.split_once(':') {
+        Some((vid, pcp)) => (vid, Some(pcp)),
+        None => (text, None),
+    }
+}
+
 /// Reads a customer's tag from the text `VID` or `VID:PCP` in decimal digits. Without PCP the priority is 0.
 ///
 /// # Errors
 ///
-/// `Form` if the text has another form. `Vid` if the VID is above 4094. `Pcp` if the VID is none of these and the
-/// priority is above 7.
+/// `Form` if the text has another form. `Vid` if the VID is above 4094, whatever follows it. `Pcp` if the priority is
+/// above 7.
 pub fn customer_tag_of(text: &str) -> Result<Tci, TagTextFault>
     ensures text { IfOk result (λ tag. IsCustomerTagText text.now tag.vid tag.pcp) }
     ensures range { IfOk result (λ tag. (tag.vid ≤ 4094) × (tag.pcp ≤ 7) × (tag.dei ≡ 0)) }
+    ensures fault { IfErr result (IsTagFault text.now) }
 {
-    let Some((vid, pcp)) = text.split_once(':') else {
-        let vid = vid_in(text)?;
-        return Ok(Tci {
-            pcp: 0,
-            dei: 0,
-            vid,
-        });
-    };
+    let (vid, pcp) = parts_of(text);
     let vid = vid_in(vid)?;
     let pcp = pcp_in(pcp)?;
     Ok(Tci { pcp, dei: 0, vid })
@@ -116,7 +129,7 @@ pub fn priority_tag(pcp: u8) -> Option<Tci>
 
 /// Returns the digits of a type, without `0x` before them.
 fn type_digits(text: &[u8]) -> &[u8]
-    ensures { (text.now ≡ result.now) ⊎ (text.now ≡ codes "0x" ++ result.now) }
+    ensures { result.now ≡ type_digits text.now }
 {
     match text {
         [b'0', b'x', digits @ ..] => digits,
@@ -126,7 +139,8 @@ fn type_digits(text: &[u8]) -> &[u8]
 
 /// Returns the octets of four hexadecimal digits. None for any other text.
 fn two_octets(digits: &[u8]) -> Option<(u8, u8)>
-    ensures { IfSome result (λ pair. IsHex digits.now (pair.0 ∷ pair.1 ∷ [])) }
+    ensures some { IfSome result (λ pair. IsHex digits.now (pair.0 ∷ pair.1 ∷ [])) }
+    ensures none { IfNone result ((high : ℕ) (low : ℕ) → IsHex digits.now (high ∷ low ∷ []) → ⊥) }
 {
     match digits {
         [a, b, c, d] => Some((octet(*a, *b)?, octet(*c, *d)?)),
@@ -140,8 +154,9 @@ fn two_octets(digits: &[u8]) -> Option<(u8, u8)>
 ///
 /// `Digits` if the text has another form, `Length` if the number is below 0600, which is a length.
 pub fn ethertype_of(text: &str) -> Result<u16, TagTextFault>
-    ensures value { IfOk result (λ number. IsTypeText text.now number) }
+    ensures value { IfOk result (IsTypeText text.now) }
     ensures range { IfOk result (λ number. 1536 ≤ number) }
+    ensures fault { IfErr result (IsTypeFault text.now) }
 {
     let digits = type_digits(text.as_bytes());
     let Some((high, low)) = two_octets(digits) else {

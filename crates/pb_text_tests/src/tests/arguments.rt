@@ -95,133 +95,160 @@ fn draws_the_trees_of_one_file(rt: HostRuntime) -> Result<(), Fail> {
     all_ask(&rt, rt.alloc(), ROWS)
 }
 
+/// Frames of `trace` in digits.
+const TRACED: &[Row] = &[
+    (
+        &["trace", "a", "C1", "ff"],
+        Wanted::Trace("a", &[("C1", "ff")], &[], None),
+    ),
+    (
+        &["trace", "--settle", "a", "C1", "ff"],
+        Wanted::Trace("a", &[("C1", "ff")], &[], Some(200)),
+    ),
+    (
+        &["trace", "a", "C1", "ff", "--then", "C2", "00"],
+        Wanted::Trace("a", &[("C1", "ff"), ("C2", "00")], &[], None),
+    ),
+    (
+        &[
+            "trace", "--then", "C2", "00", "a", "--then", "C3", "x", "C1", "",
+        ],
+        Wanted::Trace("a", &[("C1", ""), ("C2", "00"), ("C3", "x")], &[], None),
+    ),
+    (
+        &[
+            "trace",
+            "a",
+            "C1",
+            "ff",
+            "--down",
+            "L1",
+            "--down=B1:2",
+            "--ticks",
+            "1000000",
+            "--settle",
+        ],
+        Wanted::Trace("a", &[("C1", "ff")], &["L1", "B1:2"], Some(1_000_000)),
+    ),
+    (
+        &["trace", "a", "C1", "ff", "--down", "L1"],
+        Wanted::Trace("a", &[("C1", "ff")], &["L1"], None),
+    ),
+    (&["trace", "a", "C1", "ff", "--ticks", "5"], WRONG),
+    (
+        &["trace", "a", "C1", "ff", "--settle", "--ticks", "0"],
+        WRONG,
+    ),
+    (
+        &["trace", "a", "C1", "ff", "--settle", "--ticks", "1000001"],
+        WRONG,
+    ),
+    (&["trace", "a", "C1", "ff", "--down"], WRONG),
+    (&["trace", "a"], WRONG),
+    (&["trace"], WRONG),
+    (&["trace", "a", "C1", "ff", "C2", "00"], WRONG),
+    (&["trace", "a", "C1", "ff", "--then", "C2"], WRONG),
+    (&["trace", "a", "C1", "ff", "--then"], WRONG),
+    (&["trace", "a", "C1", "ff", "--settle=1"], WRONG),
+    (&["trace", "--help"], HELP),
+];
+
 #[test]
 fn traces_frames_in_one_file(rt: HostRuntime) -> Result<(), Fail> {
-    const ROWS: &[Row] = &[
-        (
-            &["trace", "a", "C1", "ff"],
-            Wanted::Trace("a", &[("C1", "ff")], &[], None),
-        ),
-        (
-            &["trace", "--settle", "a", "C1", "ff"],
-            Wanted::Trace("a", &[("C1", "ff")], &[], Some(200)),
-        ),
-        (
-            &["trace", "a", "C1", "ff", "--then", "C2", "00"],
-            Wanted::Trace("a", &[("C1", "ff"), ("C2", "00")], &[], None),
-        ),
-        (
-            &[
-                "trace", "--then", "C2", "00", "a", "--then", "C3", "x", "C1", "",
-            ],
-            Wanted::Trace("a", &[("C1", ""), ("C2", "00"), ("C3", "x")], &[], None),
-        ),
-        (
-            &[
-                "trace",
-                "a",
-                "C1",
-                "ff",
-                "--down",
-                "L1",
-                "--down=B1:2",
-                "--ticks",
-                "1000000",
-                "--settle",
-            ],
-            Wanted::Trace("a", &[("C1", "ff")], &["L1", "B1:2"], Some(1_000_000)),
-        ),
-        (
-            &["trace", "a", "C1", "ff", "--down", "L1"],
-            Wanted::Trace("a", &[("C1", "ff")], &["L1"], None),
-        ),
-        (&["trace", "a", "C1", "ff", "--ticks", "5"], WRONG),
-        (
-            &["trace", "a", "C1", "ff", "--settle", "--ticks", "0"],
-            WRONG,
-        ),
-        (
-            &["trace", "a", "C1", "ff", "--settle", "--ticks", "1000001"],
-            WRONG,
-        ),
-        (&["trace", "a", "C1", "ff", "--down"], WRONG),
-        (&["trace", "a"], WRONG),
-        (&["trace"], WRONG),
-        (&["trace", "a", "C1", "ff", "C2", "00"], WRONG),
-        (&["trace", "a", "C1", "ff", "--then", "C2"], WRONG),
-        (&["trace", "a", "C1", "ff", "--then"], WRONG),
-        (&["trace", "a", "C1", "ff", "--settle=1"], WRONG),
-        (&["trace", "--help"], HELP),
-    ];
-    all_ask(&rt, rt.alloc(), ROWS)
+    all_ask(&rt, rt.alloc(), TRACED)
 }
+
+/// Options of `trace` that describe a frame.
+const DESCRIPTIONS: &[Row] = &[
+    (
+        &["trace", "a", "C1"],
+        Wanted::Described("a", "C1", DESCRIBED),
+    ),
+    (
+        &["trace", "a", "C1", "--to", "C2", "--from=02-00-00-00-00-01"],
+        Wanted::Described(
+            "a",
+            "C1",
+            Described {
+                to: Some("C2"),
+                from: Some("02-00-00-00-00-01"),
+                ..DESCRIBED
+            },
+        ),
+    ),
+    (
+        &["trace", "a", "C1", "--ctag", "5000:9", "--pcp", "7"],
+        Wanted::Described(
+            "a",
+            "C1",
+            Described {
+                ctag: Some("5000:9"),
+                pcp: Some(7),
+                ..DESCRIBED
+            },
+        ),
+    ),
+    (
+        &["trace", "a", "C1", "--bpdu", "--length", "64"],
+        Wanted::Described(
+            "a",
+            "C1",
+            Described {
+                bpdu: true,
+                length: Some(64),
+                ..DESCRIBED
+            },
+        ),
+    ),
+    (
+        &["trace", "a", "C1", "--ethertype", "88cc"],
+        Wanted::Described(
+            "a",
+            "C1",
+            Described {
+                ethertype: Some("88cc"),
+                ..DESCRIBED
+            },
+        ),
+    ),
+    (&["trace", "a", "C1", "ff", "--to", "C2"], WRONG),
+    (&["trace", "a", "C1", "ff", "--bpdu"], WRONG),
+    (&["trace", "a", "C1", "--bpdu", "--to", "C2"], WRONG),
+    (
+        &["trace", "a", "C1", "--bpdu", "--ethertype", "0800"],
+        WRONG,
+    ),
+    (&["trace", "a", "C1", "--pcp", "8"], WRONG),
+    (
+        &["trace", "a", "C1", "--pcp", "0", "--length", "14"],
+        Wanted::Described(
+            "a",
+            "C1",
+            Described {
+                pcp: Some(0),
+                length: Some(14),
+                ..DESCRIBED
+            },
+        ),
+    ),
+    (
+        &["trace", "a", "C1", "--length", "65535"],
+        Wanted::Described(
+            "a",
+            "C1",
+            Described {
+                length: Some(65_535),
+                ..DESCRIBED
+            },
+        ),
+    ),
+    (&["trace", "a", "C1", "--length", "13"], WRONG),
+    (&["trace", "a", "C1", "--length", "65536"], WRONG),
+];
 
 #[test]
 fn traces_frames_that_options_describe(rt: HostRuntime) -> Result<(), Fail> {
-    const ROWS: &[Row] = &[
-        (
-            &["trace", "a", "C1"],
-            Wanted::Described("a", "C1", DESCRIBED),
-        ),
-        (
-            &["trace", "a", "C1", "--to", "C2", "--from=02-00-00-00-00-01"],
-            Wanted::Described(
-                "a",
-                "C1",
-                Described {
-                    to: Some("C2"),
-                    from: Some("02-00-00-00-00-01"),
-                    ..DESCRIBED
-                },
-            ),
-        ),
-        (
-            &["trace", "a", "C1", "--ctag", "5000:9", "--pcp", "7"],
-            Wanted::Described(
-                "a",
-                "C1",
-                Described {
-                    ctag: Some("5000:9"),
-                    pcp: Some(7),
-                    ..DESCRIBED
-                },
-            ),
-        ),
-        (
-            &["trace", "a", "C1", "--bpdu", "--length", "64"],
-            Wanted::Described(
-                "a",
-                "C1",
-                Described {
-                    bpdu: true,
-                    length: Some(64),
-                    ..DESCRIBED
-                },
-            ),
-        ),
-        (
-            &["trace", "a", "C1", "--ethertype", "88cc"],
-            Wanted::Described(
-                "a",
-                "C1",
-                Described {
-                    ethertype: Some("88cc"),
-                    ..DESCRIBED
-                },
-            ),
-        ),
-        (&["trace", "a", "C1", "ff", "--to", "C2"], WRONG),
-        (&["trace", "a", "C1", "ff", "--bpdu"], WRONG),
-        (&["trace", "a", "C1", "--bpdu", "--to", "C2"], WRONG),
-        (
-            &["trace", "a", "C1", "--bpdu", "--ethertype", "0800"],
-            WRONG,
-        ),
-        (&["trace", "a", "C1", "--pcp", "8"], WRONG),
-        (&["trace", "a", "C1", "--length", "13"], WRONG),
-        (&["trace", "a", "C1", "--length", "65536"], WRONG),
-    ];
-    all_ask(&rt, rt.alloc(), ROWS)
+    all_ask(&rt, rt.alloc(), DESCRIPTIONS)
 }
 
 #[test]
@@ -327,73 +354,75 @@ fn shows_without_further_arguments(rt: HostRuntime) -> Result<(), Fail> {
     all_ask(&rt, rt.alloc(), ROWS)
 }
 
+/// Networks of `init`, with their services.
+const NETWORKS: &[Row] = &[
+    (&["init"], Wanted::Init(InitNetwork::Line(2), 1)),
+    (
+        &["init", "--line", "1"],
+        Wanted::Init(InitNetwork::Line(1), 1),
+    ),
+    (
+        &["init", "--line=32"],
+        Wanted::Init(InitNetwork::Line(32), 1),
+    ),
+    (
+        &["init", "--ring", "3"],
+        Wanted::Init(InitNetwork::Ring(3), 1),
+    ),
+    (
+        &["init", "--ring", "32"],
+        Wanted::Init(InitNetwork::Ring(32), 1),
+    ),
+    (
+        &["init", "--star", "2"],
+        Wanted::Init(InitNetwork::Star(2), 1),
+    ),
+    (
+        &["init", "--star", "17"],
+        Wanted::Init(InitNetwork::Star(17), 1),
+    ),
+    (
+        &["init", "--dual-homed", "2"],
+        Wanted::Init(InitNetwork::DualHomed(2), 1),
+    ),
+    (
+        &["init", "--services", "4", "--dual-homed", "24"],
+        Wanted::Init(InitNetwork::DualHomed(24), 4),
+    ),
+    (
+        &["init", "--services", "1"],
+        Wanted::Init(InitNetwork::Line(2), 1),
+    ),
+    (
+        &["init", "--ring=3", "--services=2"],
+        Wanted::Init(InitNetwork::Ring(3), 2),
+    ),
+    (&["init", "--line", "0"], WRONG),
+    (&["init", "--line", "33"], WRONG),
+    (&["init", "--ring", "2"], WRONG),
+    (&["init", "--ring", "33"], WRONG),
+    (&["init", "--star", "1"], WRONG),
+    (&["init", "--star", "18"], WRONG),
+    (&["init", "--ring", "258"], WRONG),
+    (&["init", "--ring"], WRONG),
+    (&["init", "--ring", "3", "--line", "3"], WRONG),
+    (&["init", "--ring", "3", "--star", "3"], WRONG),
+    (&["init", "--line", "3", "--star", "3"], WRONG),
+    (&["init", "--dual-homed", "3", "--ring", "3"], WRONG),
+    (&["init", "--dual-homed", "3", "--line", "3"], WRONG),
+    (&["init", "--dual-homed", "3", "--star", "3"], WRONG),
+    (&["init", "--dual-homed", "1"], WRONG),
+    (&["init", "--dual-homed", "25"], WRONG),
+    (&["init", "--services", "0"], WRONG),
+    (&["init", "--services", "5"], WRONG),
+    (&["init", "--ring", "3", "--ring", "4"], WRONG),
+    (&["init", "3"], WRONG),
+    (&["init", "--help"], HELP),
+];
+
 #[test]
 fn begins_with_a_network(rt: HostRuntime) -> Result<(), Fail> {
-    const ROWS: &[Row] = &[
-        (&["init"], Wanted::Init(InitNetwork::Line(2), 1)),
-        (
-            &["init", "--line", "1"],
-            Wanted::Init(InitNetwork::Line(1), 1),
-        ),
-        (
-            &["init", "--line=32"],
-            Wanted::Init(InitNetwork::Line(32), 1),
-        ),
-        (
-            &["init", "--ring", "3"],
-            Wanted::Init(InitNetwork::Ring(3), 1),
-        ),
-        (
-            &["init", "--ring", "32"],
-            Wanted::Init(InitNetwork::Ring(32), 1),
-        ),
-        (
-            &["init", "--star", "2"],
-            Wanted::Init(InitNetwork::Star(2), 1),
-        ),
-        (
-            &["init", "--star", "17"],
-            Wanted::Init(InitNetwork::Star(17), 1),
-        ),
-        (
-            &["init", "--dual-homed", "2"],
-            Wanted::Init(InitNetwork::DualHomed(2), 1),
-        ),
-        (
-            &["init", "--services", "4", "--dual-homed", "24"],
-            Wanted::Init(InitNetwork::DualHomed(24), 4),
-        ),
-        (
-            &["init", "--services", "1"],
-            Wanted::Init(InitNetwork::Line(2), 1),
-        ),
-        (
-            &["init", "--ring=3", "--services=2"],
-            Wanted::Init(InitNetwork::Ring(3), 2),
-        ),
-        (&["init", "--line", "0"], WRONG),
-        (&["init", "--line", "33"], WRONG),
-        (&["init", "--ring", "2"], WRONG),
-        (&["init", "--ring", "33"], WRONG),
-        (&["init", "--star", "1"], WRONG),
-        (&["init", "--star", "18"], WRONG),
-        (&["init", "--ring", "258"], WRONG),
-        (&["init", "--ring"], WRONG),
-        (&["init", "--ring", "3", "--line", "3"], WRONG),
-        (&["init", "--ring", "3", "--star", "3"], WRONG),
-        (&["init", "--line", "3", "--star", "3"], WRONG),
-        (&["init", "--dual-homed", "3", "--ring", "3"], WRONG),
-        (&["init", "--dual-homed", "3", "--line", "3"], WRONG),
-        (&["init", "--dual-homed", "3", "--star", "3"], WRONG),
-        (&["init", "--dual-homed", "1"], WRONG),
-        (&["init", "--dual-homed", "25"], WRONG),
-        (&["init", "--services", "0"], WRONG),
-        (&["init", "--services", "5"], WRONG),
-        (&["init", "--ring", "3", "--ring", "4"], WRONG),
-        (&["init", "3"], WRONG),
-        (&["init", "--help"], HELP),
-    ];
-    all_ask(&rt, rt.alloc(), ROWS)
+    all_ask(&rt, rt.alloc(), NETWORKS)
 }
 
 #[test]
