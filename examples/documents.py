@@ -4,9 +4,10 @@
 usage: examples/documents.py COMMAND REPORT DOCUMENT
        examples/documents.py COMMAND REPORT --write
 
-Reads a report of check, run, step, trace, tree, survive or diff with rules of its own, and compares what it says with a document: JSON,
-or CSV where the file's name ends in .csv. JSON begins with the command, the version and the plan file; what comes after them is
-compared. Prints what differs, with exit status 1. With --write it prints that part of the JSON instead."""
+Reads a report of check, run, step, trace, tree, survive or diff with rules of its own, and compares what it says with a
+document: JSON, or CSV where the file's name ends in .csv. JSON begins with the command, the version and the plan file;
+what comes after them is compared. A report of check on a plan that is refused is what it prints, and then what standard
+error says. Prints what differs, with exit status 1. With --write it prints that part of the JSON instead."""
 import csv
 import json
 import re
@@ -39,7 +40,7 @@ def groups(text):
 # How a group of an expression is read, by its name; a group of any other name is text.
 READ = {
     **dict.fromkeys(
-        "bridges links services ports line rule entered left filtered ab_taken ab_lost ba_taken ba_lost ticks number others events "
+        "bridges links services ports line column rule entered left filtered ab_taken ab_lost ba_taken ba_lost ticks number others events "
         "refused lost vid priority cost root_port depth part_nothing failures_tried most_ticks part_a_service form_a_loop "
         "do_not_converge are_accepted unhealthy_services checked_links checked_bridges checked_pairs better worse old_most_ticks "
         "new_most_ticks".split(),
@@ -85,7 +86,11 @@ CHANGES = [
 ]
 # For each command the lines: in which list they stand, how they look, and what they say besides.
 LINES = {
-    "check": [("counts", PLAN, {}), *FORESTS, ("warnings", r"warning: file:(?:(?P<line>\d+):)? (?P<message>.*)", {}), *ENDS],
+    "check": [
+        ("counts", PLAN, {}), *FORESTS, ("warnings", r"warning: file:(?:(?P<line>\d+):)? (?P<message>.*)", {}), *ENDS,
+        ("hint", r"hint: (?P<hint>.*)", {}), ("excerpt", r"    .*", {}),
+        ("errors", r"(?P<file>.+?):(?P<line>\d+):(?P<column>\d+): (?P<message>.*)", {}), ("errors", r"(?P<file>.+?): (?P<message>.*)", {}),
+    ],
     "run": [
         ("", rf"ended (?P<ended>\w+)", {}), ("ports", PORT, {}), ("links", LINK, {}), *FORESTS, ("", SETTLED, {}),
         ("port_faults", rf"fault: port (?P<port>{NAME}) (?P<code>\d+)", {}),
@@ -174,6 +179,7 @@ LISTS = {
 # The lists inside objects that have the value of each line alone.
 PLAIN = {"survive": ["loops"]}
 INNER = {
+    "check": {"plan_fault": ["errors"]},
     "trace": {"frames": ["hops"]},
     "tree": {"bridges": ["ports"]},
     "survive": {"nothing_down": ["loops", "services", "unhealthy"], "failures": ["loops", "services", "cut_off"]},
@@ -221,6 +227,10 @@ def document_of(command, text):
             document |= row
         elif kind == "values" or home == "other":
             document.setdefault(home, []).append(next(iter(row.values())))
+        elif home == "hint":
+            owner["errors"][-1] |= row
+        elif home == "excerpt":
+            continue
         elif kind is None:
             owner[home].append(next(iter(row.values())) if home in PLAIN.get(command, []) else row)
         else:

@@ -176,7 +176,7 @@ body_text old new base effects olds news =
     ++ rest_line old new base ++ flat_map (rest_line old new) effects
     ++ ticks_line (flat_map old_rest effects) (flat_map new_rest effects)
 
--- how the network with nothing down has changed
+-- how the network has changed, if something got better or worse
 abbrev pub verdict_word : Bool → Bool → List ℕ
 verdict_word true true = codes "better and worse"
 verdict_word true false = codes "better"

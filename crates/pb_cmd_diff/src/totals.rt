@@ -132,7 +132,7 @@ pub(crate) fn put_ticks(alloc: Global, out: &mut String, effects: &[Effect]) -> 
     put_ticks_of(alloc, out, olds.as_slice(), news.as_slice())
 }
 
-/// Returns how the network with nothing down has changed.
+/// Returns how the network has changed, from whether something got better and whether something got worse.
 fn verdict_word(better: bool, worse: bool) -> &'static str
     ensures { result.now ≡ verdict_word better worse }
 {

@@ -367,12 +367,11 @@ fn put_ending(
 /// each, whether the active links are a forest for each service, the groups of each service's customer ports, and
 /// whether it is healthy: the bridges converge, and each service has two ports or more, all connected, and no loop.
 /// Then each failure that does harm, or each one if `criteria.all` is set, has the same lines, with the services that
-/// it disconnects. A failure of which
-/// `acceptances` accept each disconnection has the word `accepted` before them. Last come the kinds of failures, the
-/// most ticks to convergence, how many failures do which harm, and the acceptances that are stale or were not tried.
-/// The last line is the verdict. It says that the network survives only if it is healthy and no failure disconnects a
-/// service without acceptance, leaves a loop, or keeps the bridges from converging. `criteria` has the ports that count
-/// as disconnected.
+/// it disconnects. A failure of which `acceptances` accept each disconnection has the word `accepted` before them. Last
+/// come the kinds of failures, the most ticks to convergence, how many failures do which harm, and the acceptances that
+/// are stale or were not tried. The last line is the verdict. It says that the network survives only if it is healthy
+/// and no failure disconnects a service without acceptance, leaves a loop, or keeps the bridges from converging.
+/// `criteria` has the ports that count as disconnected.
 ///
 /// # Errors
 ///

@@ -209,8 +209,9 @@ pub(super) const SURVIVALS: &[Said] = &[
         text: "nothing down: states given forest yes\n  service red: C1 C2\nhealthy with nothing down\n\
             checked 2 links, 1 pair\n3 of 3 failures disconnect nothing\nsurvives every single failure\n",
         json: r#"{"nothing_down": {"forest": true, "loops": [], "unhealthy": [],
-                "services": [{"name": "red", "groups": [["C1", "C2"]]}]}, "acceptances": [], "failures": [], "healthy": true,
-            "checked_links": 2, "checked_pairs": 1, "part_nothing": 3, "failures_tried": 3, "survives": true}"#,
+                "services": [{"name": "red", "groups": [["C1", "C2"]]}]},
+            "acceptances": [], "failures": [], "healthy": true, "checked_links": 2, "checked_pairs": 1,
+            "part_nothing": 3, "failures_tried": 3, "survives": true}"#,
     },
     Said {
         text: "nothing down: not settled ticks 9 forest yes\n  service red: C1\nbridges do not converge\n\
@@ -220,14 +221,14 @@ pub(super) const SURVIVALS: &[Said] = &[
         json: r#"{"nothing_down": {"settled": false, "ticks": 9, "forest": true, "loops": [],
                 "services": [{"name": "red", "groups": [["C1"]]}],
                 "unhealthy": [{"fault": "not converged"}, {"service": "red", "fault": "too few ports"}]},
-            "acceptances": [], "failures": [], "healthy": false, "unhealthy_services": 1, "checked_links": 0, "checked_bridges": 1,
-            "survives": false}"#,
+            "acceptances": [], "failures": [], "healthy": false, "unhealthy_services": 1, "checked_links": 0,
+            "checked_bridges": 1, "survives": false}"#,
     },
     Said {
         text: "nothing down: states given forest yes\nnot healthy with nothing down: no service\nchecked 0 links\n\
             not healthy with nothing down: no service\n",
-        json: r#"{"nothing_down": {"forest": true, "loops": [], "services": [], "unhealthy": []}, "acceptances": [], "failures": [],
-            "healthy": false, "checked_links": 0, "survives": false}"#,
+        json: r#"{"nothing_down": {"forest": true, "loops": [], "services": [], "unhealthy": []},
+            "acceptances": [], "failures": [], "healthy": false, "checked_links": 0, "survives": false}"#,
     },
     Said {
         text: "no such port C9\n",
@@ -238,8 +239,8 @@ pub(super) const SURVIVALS: &[Said] = &[
         json: r#"{"nothing_down": {"forest": true, "loops": [], "unhealthy": [],
                 "services": [{"name": "red", "groups": [["C1", "C2"]]}]},
             "failures": [
-                {"accepted": true, "down": "link", "name": "leaf", "settled": true, "ticks": 3, "forest": true, "loops": [],
-                    "cut_off": [], "services": [{"name": "red", "groups": [["C1"], ["C2"]]}]},
+                {"accepted": true, "down": "link", "name": "leaf", "settled": true, "ticks": 3, "forest": true,
+                    "loops": [], "cut_off": [], "services": [{"name": "red", "groups": [["C1"], ["C2"]]}]},
                 {"down": "link", "name": "a", "forest": true, "loops": [], "cut_off": [],
                     "services": [{"name": "red", "groups": [["C1"], ["C2"]]}]},
                 {"accepted": true, "down": "links", "name": "a", "other": "leaf", "forest": true, "loops": [],
@@ -262,8 +263,8 @@ const CHANGE: &str =
     service blue: bridge B1 down: no longer forms a forwarding loop\n\
     link L2 with nothing down: a root forwarding, b designated forwarding -> a forwarding, b discarding\n\
     nothing down: bridges now converge\nlink L2 down: bridges no longer converge\n\
-    link L2 down: worse\nlinks L2 L3 down: better and worse\nbridge B1 down: no change\n\
     most ticks to convergence: 7 -> none\n\
+    link L2 down: worse\nlinks L2 L3 down: better and worse\nbridge B1 down: no change\n\
     better: 1 of 5 failures; worse: 0 of 5 failures; with nothing down: worse\n";
 
 /// The reports of `diff`.
@@ -271,7 +272,8 @@ pub(super) const CHANGES: &[Said] = &[
     Said {
         text: CHANGE,
         json: r#"{"network": [{"key": "ageing", "old": "300", "new": "400"}],
-            "parts": [{"part": "link", "name": "L1", "change": "removed"}, {"part": "port", "name": "C9", "change": "added"}],
+            "parts": [{"part": "link", "name": "L1", "change": "removed"},
+                {"part": "port", "name": "C9", "change": "added"}],
             "fields": [{"part": "link", "name": "L2", "key": "a_services", "old": "[ ]", "new": "all"}],
             "reach": [
                 {"service": "red", "down": "nothing", "reach": false, "groups": [["C1", "C2"], ["C3"]]},
@@ -290,13 +292,11 @@ pub(super) const CHANGES: &[Said] = &[
     Said {
         text: "no difference\n",
         json: r#"{"network": [], "parts": [], "fields": [], "reach": [], "loop_changes": [], "ends": [],
-            "convergence": [], "failures": [],
-            "differs": false}"#,
+            "convergence": [], "failures": [], "differs": false}"#,
     },
     Said {
         text: "no such service green\n",
         json: r#"{"network": [], "parts": [], "fields": [], "reach": [], "loop_changes": [], "ends": [],
-            "convergence": [], "failures": [],
-            "no_such": {"service": "green"}}"#,
+            "convergence": [], "failures": [], "no_such": {"service": "green"}}"#,
     },
 ];

@@ -126,14 +126,14 @@ nothing down: settled ticks 2 forest yes\n\
 \x20 service red: C1 C2\n\
 \x20 service blue: C3 C4\n\
 healthy with nothing down\n\
-link L1 down: settled ticks 2 forest yes\n\
+link L1 down: settled ticks 3 forest yes\n\
 link L2 down: settled ticks 2 forest yes\n\
 link L3 down: settled ticks 2 forest yes\n\
 accepted link L4 down: settled ticks 2 forest yes\n\
 \x20 service red: C1 | C2\n\
 checked 4 links\n\
 3 of 4 failures disconnect nothing\n\
-converges within 2 ticks\n\
+converges within 3 ticks\n\
 1 of 4 failures are accepted\n\
 survives every failure that is not accepted\n";
 
