@@ -2,7 +2,8 @@
 
 ghost use Rattle.std.specs.Prelude.{◌≡◌, string_bytes, IfOk};
 ghost use Rattle.pb_lan.specs.Plans.{IsSound};
-ghost use Rattle.pb_plan_diff.specs.Parts.{spanning_word, queues_word, truth_word, is_member, services_text, losses_text};
+ghost use Rattle.pb_plan_diff.specs.Parts.{spanning_word, queues_word, truth_word, is_member, services_text};
+ghost use Rattle.pb_plan_diff.specs.Parts.{losses_text};
 ghost use Rattle.std.specs.declared.option.Option.TheVariants.{Some as some_numbers};
 
 use pb_frame::{Memory, Seq, Text};

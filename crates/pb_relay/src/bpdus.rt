@@ -41,12 +41,10 @@ impl BpduRoom {
     ///
     /// `Memory` if an allocation failed.
     pub fn new(alloc: Global, queues: Queues) -> Result<BpduRoom, Memory>
-        ensures queued { IfOk result (λ room. room.queued.items ≡ []) }
-        ensures replaced { IfOk result (λ room. room.replaced.items ≡ []) }
-        ensures dropped { IfOk result (λ room. room.dropped.items ≡ []) }
-        ensures queued_room { IfOk result (λ room. 16 ≤ vec_capacity room.queued) }
-        ensures replaced_room { IfOk result (λ room. queues ≡ PerClass → 16 ≤ vec_capacity room.replaced) }
-        ensures dropped_room { IfOk result (λ room. 16 ≤ vec_capacity room.dropped) }
+        ensures empty { IfOk result (λ room. (room.queued.items ≡ []) × (room.replaced.items ≡ [])
+            × (room.dropped.items ≡ [])) }
+        ensures room { IfOk result (λ room. (16 ≤ vec_capacity room.queued) × (16 ≤ vec_capacity room.dropped)
+            × (queues ≡ PerClass → 16 ≤ vec_capacity room.replaced)) }
     {
         let replaced = match queues {
             Queues::PerPort => Vec::new(alloc),
@@ -127,9 +125,9 @@ fn note_sent(room: &mut BpduRoom, port: u8, answer: Result<Queued, NoRoom>)
     ensures queued { room.new.queued.items ≡ room.old.queued.items ++ told_queued port answer }
     ensures replaced { room.new.replaced.items ≡ room.old.replaced.items ++ told_replaced port answer }
     ensures dropped { room.new.dropped.items ≡ room.old.dropped.items ++ named port (word_of answer) }
-    ensures queued_room { vec_capacity room.old.queued ≤ vec_capacity room.new.queued }
-    ensures replaced_room { vec_capacity room.old.replaced ≤ vec_capacity room.new.replaced }
-    ensures dropped_room { vec_capacity room.old.dropped ≤ vec_capacity room.new.dropped }
+    ensures room { (vec_capacity room.old.queued ≤ vec_capacity room.new.queued)
+        × (vec_capacity room.old.replaced ≤ vec_capacity room.new.replaced)
+        × (vec_capacity room.old.dropped ≤ vec_capacity room.new.dropped) }
 {
     match answer {
         Ok(Queued { item, older }) => {
@@ -145,18 +143,17 @@ pub fn queue_bpdus(backlog: &mut Backlog, room: &mut BpduRoom, sends: &[(u8, Bpd
     requires backlog { length backlog.old.ports ≡ 16 }
     requires empty { (room.old.queued.items ≡ []) × (room.old.replaced.items ≡ []) × (room.old.dropped.items ≡ []) }
     requires room { (length sends.now ≤ vec_capacity room.old.queued)
-        × (length sends.now ≤ vec_capacity room.old.dropped) }
-    requires replaced_room { backlog.old.capacity.queues ≡ PerClass
-        → length sends.now ≤ vec_capacity room.old.replaced }
+        × (length sends.now ≤ vec_capacity room.old.dropped)
+        × (backlog.old.capacity.queues ≡ PerClass → length sends.now ≤ vec_capacity room.old.replaced) }
     requires separate { AreSeparate (places_of (frames_of address.0 sends.now)) }
     ensures copied { AreCopied backlog.old.capacity (own_class backlog.old.capacity.queues)
         (own_at (frames_of address.0 sends.now)) backlog.old.ports (places_of (frames_of address.0 sends.now))
         room.new.dropped.items backlog.new.ports }
     ensures count { length backlog.new.ports ≡ 16 }
     ensures kept { KeepsBacklog backlog.old backlog.new }
-    ensures queued { room.new.queued.items ≡ own_queued room.new.dropped.items (frames_of address.0 sends.now) }
-    ensures replaced { room.new.replaced.items
-        ≡ own_replaced backlog.old.capacity.queues backlog.old.ports room.new.queued.items }
+    ensures reported { (room.new.queued.items ≡ own_queued room.new.dropped.items (frames_of address.0 sends.now))
+        × (room.new.replaced.items
+        ≡ own_replaced backlog.old.capacity.queues backlog.old.ports room.new.queued.items) }
 {
     for (port, bpdu) in sends {
         let place = index_of(*port);

@@ -41,12 +41,9 @@ pub fn follow(
     address: Mac,
 ) -> Moved
     requires backlog { length forwarding.old.backlog.ports ≡ 16 }
-    requires queued { room.queued.items ≡ [] }
-    requires replaced { room.replaced.items ≡ [] }
-    requires dropped { room.dropped.items ≡ [] }
-    requires queued_room { 16 ≤ vec_capacity room.queued }
-    requires replaced_room { forwarding.old.backlog.capacity.queues ≡ PerClass → 16 ≤ vec_capacity room.replaced }
-    requires dropped_room { 16 ≤ vec_capacity room.dropped }
+    requires empty { (room.queued.items ≡ []) × (room.replaced.items ≡ []) × (room.dropped.items ≡ []) }
+    requires room { (16 ≤ vec_capacity room.queued) × (16 ≤ vec_capacity room.dropped)
+        × (forwarding.old.backlog.capacity.queues ≡ PerClass → 16 ≤ vec_capacity room.replaced) }
     requires change { IsOfPorts address.0 change }
     ensures { HasFollowed address.0 change forwarding.old result forwarding.new }
 {

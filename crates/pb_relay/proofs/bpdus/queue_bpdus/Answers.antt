@@ -66,7 +66,7 @@ loop-port-preserved c =
         replaced-few x.0 answer,
         c.loop-port.invariant.fewer_replaced,
       );
-      replaced_room = λ e. let l = c.loop-port.invariant.replaced_room e in omega (arith, rooms.replaced_room, l);
-      dropped_room = omega (arith, rooms.dropped_room, c.loop-port.invariant.dropped_room);
-      queued_room = omega (arith, rooms.queued_room, c.loop-port.invariant.queued_room);
+      replaced_room = λ e. let l = c.loop-port.invariant.replaced_room e in omega (arith, rooms.room.1, l);
+      dropped_room = omega (arith, rooms.room.2, c.loop-port.invariant.dropped_room);
+      queued_room = omega (arith, rooms.room.0, c.loop-port.invariant.queued_room);
     }
