@@ -1,5 +1,5 @@
 -- The output of a step script.
-use Rattle.std.specs.Prelude.{◌≡◌, ℕ, ◌-◌, suc, Bool, List, [], ◌∷◌, ◌++◌, Option, Some, None, IfSome, ⊤, length, slice_get, Ok, Err}
+use Rattle.std.specs.Prelude.{◌≡◌, ℕ, ◌-◌, suc, Bool, List, [], ◌∷◌, ◌++◌, Option, Some, IfSome, length, slice_get, Ok, Err}
 use Rattle.std.specs.Io.KnownBytes.{Appends}
 use Rattle.pb_lan.specs.Events.{empty_record, steps_at, with_step}
 use Rattle.pb_lan.specs.Records.{IsLawfulRecord}
@@ -10,7 +10,7 @@ use Rattle.pb_lan.specs.declared.plan.Spanning.TheVariants.{Rstp}
 use Rattle.pb_lan.specs.declared.record.Record.{Record}
 use Rattle.pb_lan.specs.declared.step.Place.{Place}
 use Rattle.pb_lan.specs.declared.step.Step.{Step}
-use Rattle.pb_lines.specs.Lines.{lines_of, cut_lines}
+use Rattle.pb_lines.specs.Lines.{lines_of}
 use Rattle.pb_net.specs.Answers.{NetView, IsAnswer}
 use Rattle.pb_relay.specs.Settled.{TellsSettled}
 use Rattle.pb_net.specs.declared.did.Did.TheVariants.{Idle, Done}

@@ -1,18 +1,9 @@
 -- Scripts that are tests: comments, expectations and findings.
-use Rattle.std.specs.Prelude.{◌≡◌, ◌≢◌, ◌⊎◌, ℕ, ◌-◌, ◌<◌, ◌≤◌, ◌==◌, suc, Bool, true, false, List, [], ◌∷◌, ◌++◌, Option, Some, None, IfSome, ⊤, length, take, codes}
+use Rattle.std.specs.Prelude.{◌≡◌, ◌≢◌, ℕ, ◌-◌, ◌<◌, ◌≤◌, ◌==◌, Bool, true, List, [], ◌∷◌, ◌++◌, Some, length, take, codes}
 use Rattle.std.specs.Fmt.{decimal}
-use Rattle.std.specs.Io.KnownBytes.{Appends}
-use Rattle.pb_lan.specs.Records.{IsLawfulRecord}
-use Rattle.pb_relay.specs.Protocol.{spanning_tree}
-use Rattle.pb_lan.specs.declared.plan.Plan.{Plan}
-use Rattle.pb_lines.specs.Lines.{lines_of, cut_lines}
-use Rattle.pb_net.specs.Answers.{NetView}
 use Rattle.pb_step_script.specs.Answers.{no_such_line}
 use Rattle.pb_messages.specs.BadLines.{bad_line}
 use Rattle.pb_messages.specs.Words.{cut}
-use Rattle.pb_messages.specs.declared.fault.CommandFault.{CommandFault}
-use Rattle.pb_messages.specs.declared.fault.CommandFault.TheVariants.{Steps}
-use Rattle.pb_cmd_step.specs.Steps.{StepAnswer, IsReport, IsAtLimit, MayFollow, start_of}
 
 -- an empty line and a line that begins with `#`
 abbrev pub is_comment : List ℕ → Bool

@@ -20,12 +20,12 @@ returns-in_err-net-clause-part g c =
 pub returns-clause-ok : goal.returns-clause-ok
 returns-clause-ok g c =
     on_ok_weaker c.drive.result (plain_prints longest_line c.args.plan (g.R.Read.remaining c.args.reader.now)
-    c.new.result c.drive.new.notes (g.W.Write.contents c.args.writer.now) (g.W.Write.contents c.drive.new.writer))
+    c.new-notes.result c.drive.new.notes (g.W.Write.contents c.args.writer.now) (g.W.Write.contents c.drive.new.writer))
     c.drive.ensures.ok
 
 pub returns-clause-part : goal.returns-clause-part
 returns-clause-part g c =
     IfErr-weaker c.drive.result _ _
-    (λ e part ne. plain_begins e longest_line c.args.plan (g.R.Read.remaining c.args.reader.now) c.new.result
+    (λ e part ne. plain_begins e longest_line c.args.plan (g.R.Read.remaining c.args.reader.now) c.new-notes.result
     (g.W.Write.contents c.args.writer.now) (g.W.Write.contents c.drive.new.writer) (part ne))
     c.drive.ensures.part
