@@ -45,7 +45,8 @@ fn put_carets(out: &mut String, count: usize) -> Result<(), AllocError>
 
 /// Appends the path of a file with line and column, if there are some.
 fn put_location(out: &mut String, path: &str, place: Option<&Place>) -> Result<(), AllocError>
-    ensures { OnOk result (string_bytes out.new ≡ string_bytes out.old ++ location path.now (option_copied place.entry)) }
+    ensures { OnOk result (string_bytes out.new ≡ string_bytes out.old
+        ++ location path.now (option_copied place.entry)) }
 {
     match place {
         Some(place) => {

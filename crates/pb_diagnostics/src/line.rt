@@ -2,7 +2,8 @@
 
 ghost use Rattle.std.specs.Prelude.{◌≡◌, ◌==◌, ◌≤◌, ◌<◌, length, reverse, IfSome};
 ghost use Rattle.std.specs.List.{position};
-ghost use Rattle.pb_diagnostics.specs.Lines.{is_blank, indent, code_length, first_line, is_rest, position_of, has_header};
+ghost use Rattle.pb_diagnostics.specs.Lines.{is_blank, indent, code_length, first_line, is_rest, position_of};
+ghost use Rattle.pb_diagnostics.specs.Lines.{has_header};
 
 /// Returns whether an octet is a space, a tab or the carriage return of a line's end.
 fn is_blank(octet: u8) -> bool

@@ -64,8 +64,8 @@ fn is_value(alloc: Global, text: &[u8]) -> Result<bool, AllocError>
     }
 }
 
-/// Returns the end of the value that begins at an octet of a line. It is the end of the line's code if the value goes on
-/// after this line.
+/// Returns the end of the value that begins at an octet of a line. It is the end of the line's code if the value goes
+/// on after this line.
 ///
 /// # Errors
 ///

@@ -3,7 +3,8 @@
 ghost use Rattle.std.specs.Prelude.{◌≡◌, ◌≤◌, ◌==◌, count_by, length, max, slice_range, IfOk};
 ghost use Rattle.std.specs.Str.{IsUtf8};
 ghost use Rattle.pb_diagnostics.specs.Lines.{first_line};
-ghost use Rattle.pb_diagnostics.specs.Places.{is_first_octet, characters, last_length, line_at, start_in, end_in, IsPlace};
+ghost use Rattle.pb_diagnostics.specs.Places.{is_first_octet, characters, last_length, line_at, start_in, end_in};
+ghost use Rattle.pb_diagnostics.specs.Places.{IsPlace};
 
 use crate::line::first_line;
 use crate::mark::Mark;

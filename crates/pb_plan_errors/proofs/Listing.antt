@@ -26,7 +26,7 @@ later_error file r e refused error = (
   record {
     fault = r.fault;
     breaks = refused.breaks;
-    no_lack = refused.no_lack;
+    not_memory = refused.not_memory;
     error = error;
   },
 )

@@ -13,8 +13,12 @@ use Rattle.pb_plan_errors.specs.declared.finding.Finding.{Finding}
 pub shared_sites : (document : Members) (u v : PortUse) → IsUse document u → IsUse document v
     → v.bridge.now ≡ u.bridge.now → v.port ≡ u.port
     → IsShared document (RowKey u.word u.index u.key) (Some (RowKey v.word v.index v.key))
-shared_sites document u v a b bridge port =
-    (v.bridge.now, v.port, (a.row, a.stands, (rw bridge a.bridge, rw port a.port)), (b.row, b.stands, (b.bridge, b.port)))
+shared_sites document u v a b bridge port = (
+  v.bridge.now,
+  v.port,
+  (a.row, a.row_is, (rw bridge a.bridge, rw port a.port)),
+  (b.row, b.row_is, (b.bridge, b.port)),
+)
 
 pub shared_finding : (document : Members) (f : Finding) (u v : PortUse)
     → f.about ≡ RowKey u.word u.index u.key → f.other ≡ Some (RowKey v.word v.index v.key)

@@ -80,7 +80,7 @@ IsFaultOf file fault = (fault ≢ Memory) × RefusesFile file fault
 pub record IsErrorOf (file : List ℕ) (document : Members) (e : Diagnostic) : Type 0 where
   pub fault : PlanFault
   pub breaks : Refuses document fault
-  pub no_lack : fault ≢ Memory
+  pub not_memory : fault ≢ Memory
   pub error : IsDocumentError file document fault e
 
 -- the file isn't a TOML document

@@ -9,7 +9,7 @@ use Rattle.pb_plan_errors.specs.declared.all.Refused.{Refused}
 -- the document breaks the rule
 pub record IsRefused (r : Refused) : Type 0 where
   pub breaks : Refuses (table_view r.document) r.fault
-  pub no_lack : r.fault ≢ Memory
+  pub not_memory : r.fault ≢ Memory
 
 -- the document read again from its text is the same one, unless its tables nest deeper than the reader allows
 abbrev pub IsSame : Members → Members → Type 0

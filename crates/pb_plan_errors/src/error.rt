@@ -195,7 +195,7 @@ pub fn fault_error(alloc: Global, file: &[u8], fault: &PlanFault) -> Result<Diag
     }
 }
 
-/// Checks that a file was not refused for want of memory.
+/// Checks that a file was not refused because an allocation failed.
 ///
 /// # Errors
 ///

@@ -50,7 +50,8 @@ fn put_row(out: &mut String, document: &Table, word: &str, index: usize) -> Resu
 
 /// Appends the table that an error is about. Nothing for a key at the top.
 fn put_subject(out: &mut String, document: &Table, site: Site<'_>) -> Result<(), Memory>
-    ensures { OnOk result (string_bytes out.new ≡ string_bytes out.old ++ subject (table_view document.now) site.entry) }
+    ensures { OnOk result (string_bytes out.new ≡ string_bytes out.old
+        ++ subject (table_view document.now) site.entry) }
 {
     match site {
         Site::Key(_) | Site::Row(_, _) => Ok(()),

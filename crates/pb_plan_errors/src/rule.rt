@@ -140,8 +140,8 @@ static TOP: [Rule; 7] = [
     rule!("accept", TABLES, TABLES),
 ];
 
-/// Returns the rules of the keys of a table, by the key of the table or array of tables. Those at the top have the empty
-/// text.
+/// Returns the rules of the keys of a table, by the key of the table or array of tables. Those at the top have the
+/// empty text.
 #[tactic(auto, unfolding(crate::specs::Rules::keys_of))]
 pub(crate) fn rules_of(word: &str) -> &'static [Rule]
     ensures { map (λ r. r.key.now) result.now ≡ keys_of word.now }

@@ -6,4 +6,5 @@ use Rattle.pb_plan_errors.proofs.finding.is_listed.Given as goal
 
 -- no earlier item is the name
 abbrev pub invariant-loop-item : goal.invariant-loop-item
-invariant-loop-item l = any_item (is_text (same l.name)) (items_view (drop l.item-index l.items)) ≡ any_item (is_text (same l.name)) (items_view l.items)
+invariant-loop-item l = any_item (is_text (same l.name)) (items_view (drop l.item-index l.items)) ≡ any_item
+    (is_text (same l.name)) (items_view l.items)
