@@ -16,14 +16,17 @@ returns-in_ok-put_settled-in-Ok c =
     c.in_ok-put_plan-in-Ok.ensures f.1 in (
       line ++ f.0 ++ s.0,
       with_piece old shown (string_bytes c.put_settled.new.out) (line ++ f.0) s.0 front s.1,
-      inl (refl, record {
-        plan = plan;
-        specs = c.in-Ok._ports.items;
-        told = c.in-Ok.ensures.plan;
-        forest = f.0;
-        is_forest = subst (λ shape. IsForestText plan shape f.0) c.in_ok-shape-in-Ok.ensures f.2;
-        settled = s.0;
-        is_settled = s.2;
-        text_is = refl;
-      }),
+      inl (
+        refl,
+        record {
+          plan = plan;
+          specs = c.in-Ok._ports.items;
+          told = c.in-Ok.ensures.plan;
+          forest = f.0;
+          is_forest = subst (λ shape. IsForestText plan shape f.0) c.in_ok-shape-in-Ok.ensures f.2;
+          settled = s.0;
+          is_settled = s.2;
+          text_is = refl;
+        },
+      ),
     )
