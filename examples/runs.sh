@@ -237,7 +237,12 @@ refuses() {
     same out/errors "examples/$it.errors"
     runs "out/$it.json" check "$@" --format json "examples/$it.toml"
     ended 1
-    [ ! -f "examples/$it.json" ] || same "out/$it.json" "examples/$it.json"
+    written+=("out/$it.json")
+    if [ -f "examples/$it.json" ]; then
+        same_document "out/$it.json" "examples/$it.json"
+        cat "out/$it.expected" "examples/$it.errors" >"out/$it.all"
+        agrees check "out/$it.all" "out/$it.json"
+    fi
 }
 refuses broken/errors --all
 refuses broken/misspelt
@@ -570,7 +575,12 @@ missing out/ring.control
 
 begin "documents and plans by their schemas"
 told=0
-python3 examples/schemas.py "${written[@]}" examples/*.toml examples/broken/*.toml 2>out/errors || told=$?
+plans=(examples/*.toml)
+for it in examples/broken/*.toml; do
+    # (this one breaks the rules that the schema has)
+    [ "$it" = examples/broken/errors.toml ] || plans+=("$it")
+done
+python3 examples/schemas.py "${written[@]}" "${plans[@]}" 2>out/errors || told=$?
 if [ "$told" = 2 ]; then
     cat out/errors >&2
     name=
