@@ -25,7 +25,7 @@ import common
 import openvswitch
 from streams import Peer
 
-SIZES, PLAIN_SIZES = (4, 6, 12, 20), (4, 6)
+SIZES, PLAIN_SIZES = (4, 6, 12, 16, 20), (4, 6)
 # Seconds between frames, of a ring before its first failure, from a repair to the next failure, for which frames must
 # arrive after a failure, and for which a trial waits for that.
 PERIOD, AGE, REST, CLEAN, PATIENCE = 0.005, 61, 32, 1.0, 90
