@@ -555,7 +555,7 @@ begin "a slow peer, with --linger 0"
 slow 0
 ended 4
 has_line out/errors 'port C1: [0-9]* frames not written'
-has_line out/slow.json '      "what": "frames not written",'
+has_line out/slow.json '      "what": "frames not written"'
 written+=(out/slow.json)
 
 # A link of the ring fails by an event, and another by the control socket. Frames take the other way.
