@@ -1,4 +1,4 @@
-# Completions of pbnet for bash. scripts/manual.py made them from the help of pbnet 0.6.0.
+# Completions of pbnet for bash. scripts/manual.py made them from the help of pbnet 0.7.0.
 
 # Sets `options` to the options of the command $1, and `places` to what each of its arguments can be: words, or @file.
 # Sets `repeats` if the last argument can be repeated.
@@ -14,11 +14,11 @@ _pbnet_command()
             places=('')
             ;;
         check)
-            options='--strict --format -h --help'
+            options='--strict --settle --ticks --all --format -h --help'
             places=(@file)
             ;;
         step)
-            options='--format -h --help'
+            options='--test --format -h --help'
             places=(@file)
             ;;
         run)
@@ -35,11 +35,11 @@ _pbnet_command()
             places=(@file)
             ;;
         survive)
-            options='--pairs --bridges --own --service --from --accept --strict --print-accept --format --ticks -h --help'
+            options='--pairs --bridges --own --service --from --accept --strict --print-accept --all-failures --format --ticks -h --help'
             places=(@file)
             ;;
         diff)
-            options='--pairs --bridges --service --format --ticks -h --help'
+            options='--pairs --bridges --service --all-failures --format --ticks -h --help'
             places=('' '')
             ;;
         draw)
@@ -47,7 +47,7 @@ _pbnet_command()
             places=(@file)
             ;;
         trace)
-            options='--then --down --format --settle --ticks -h --help'
+            options='--to --from --ctag --pcp --bpdu --ethertype --length --then --down --format --settle --ticks -h --help'
             places=(@file '' '')
             ;;
         show)
@@ -55,7 +55,7 @@ _pbnet_command()
             places=()
             ;;
         init)
-            options='--line --ring --star -h --help'
+            options='--line --ring --star --dual-homed --services -h --help'
             places=()
             ;;
         help)
@@ -68,6 +68,7 @@ _pbnet_command()
 _pbnet_option()
 {
     case "$1 $2" in
+        'check --ticks') follows=('') ;;
         'check --format') follows=('text json') ;;
         'step --format') follows=('text json csv') ;;
         'run --seconds') follows=('') ;;
@@ -90,6 +91,12 @@ _pbnet_option()
         'draw --format') follows=('svg dot') ;;
         'draw -o' | 'draw --output') follows=(@file) ;;
         'draw --ticks') follows=('') ;;
+        'trace --to') follows=('') ;;
+        'trace --from') follows=('') ;;
+        'trace --ctag') follows=('') ;;
+        'trace --pcp') follows=('') ;;
+        'trace --ethertype') follows=('') ;;
+        'trace --length') follows=('') ;;
         'trace --then') follows=('' '') ;;
         'trace --down') follows=('') ;;
         'trace --format') follows=('text json') ;;
@@ -97,6 +104,8 @@ _pbnet_option()
         'init --line') follows=('') ;;
         'init --ring') follows=('') ;;
         'init --star') follows=('') ;;
+        'init --dual-homed') follows=('') ;;
+        'init --services') follows=('') ;;
     esac
 }
 

@@ -1,4 +1,4 @@
-# Completions of pbnet for fish. scripts/manual.py made them from the help of pbnet 0.6.0.
+# Completions of pbnet for fish. scripts/manual.py made them from the help of pbnet 0.7.0.
 
 complete -c pbnet -f
 complete -c pbnet -n __fish_use_subcommand -s h -l help -d 'Print help'
@@ -18,9 +18,13 @@ complete -c pbnet -n __fish_use_subcommand -a init -d 'Print a starter plan'
 complete -c pbnet -n __fish_use_subcommand -a help -d 'Print this message or the help of the given subcommand(s)'
 complete -c pbnet -n '__fish_seen_subcommand_from flat' -s h -l help -d 'Print help'
 complete -c pbnet -n '__fish_seen_subcommand_from check' -l strict -d 'Exit with status 4 if there is a warning'
+complete -c pbnet -n '__fish_seen_subcommand_from check' -l settle -d 'Also report the forest after convergence; --ticks limits the wait'
+complete -c pbnet -n '__fish_seen_subcommand_from check' -l ticks -x -d 'Wait at most N ticks for convergence [default: 200] [range: 1-1000000]'
+complete -c pbnet -n '__fish_seen_subcommand_from check' -l all -d 'Report all errors of the plan, at most 50'
 complete -c pbnet -n '__fish_seen_subcommand_from check' -l format -x -a 'text json' -d 'Format of the report [default: text]'
 complete -c pbnet -n '__fish_seen_subcommand_from check' -s h -l help -d 'Print help'
 complete -c pbnet -n '__fish_seen_subcommand_from check' -F
+complete -c pbnet -n '__fish_seen_subcommand_from step' -l test -d 'Skip lines `# ..`, check lines `expect ANSWER`, and exit with status 4 if there is a finding'
 complete -c pbnet -n '__fish_seen_subcommand_from step' -l format -x -a 'text json csv' -d 'Format of the report; csv prints its table alone [default: text]'
 complete -c pbnet -n '__fish_seen_subcommand_from step' -s h -l help -d 'Print help'
 complete -c pbnet -n '__fish_seen_subcommand_from step' -F
@@ -48,6 +52,7 @@ complete -c pbnet -n '__fish_seen_subcommand_from survive' -l from -x -d 'Report
 complete -c pbnet -n '__fish_seen_subcommand_from survive' -l accept -r -F -d 'Accept the disconnections that this TOML file lists in [[accept]]'
 complete -c pbnet -n '__fish_seen_subcommand_from survive' -l strict -d 'Exit with status 4 if an acceptance is stale'
 complete -c pbnet -n '__fish_seen_subcommand_from survive' -l print-accept -d 'Print the tables [[accept]] of what was found, and no report'
+complete -c pbnet -n '__fish_seen_subcommand_from survive' -l all-failures -d 'Report every failure, also those that change nothing; JSON always does'
 complete -c pbnet -n '__fish_seen_subcommand_from survive' -l format -x -a 'text json csv' -d 'Format of the report; csv prints its table alone [default: text]'
 complete -c pbnet -n '__fish_seen_subcommand_from survive' -l ticks -x -d 'Wait at most N ticks for convergence [default: 200] [range: 1-1000000]'
 complete -c pbnet -n '__fish_seen_subcommand_from survive' -s h -l help -d 'Print help'
@@ -55,6 +60,7 @@ complete -c pbnet -n '__fish_seen_subcommand_from survive' -F
 complete -c pbnet -n '__fish_seen_subcommand_from diff' -l pairs -d 'Also fail each pair of links'
 complete -c pbnet -n '__fish_seen_subcommand_from diff' -l bridges -d 'Also fail each bridge, with all of its links'
 complete -c pbnet -n '__fish_seen_subcommand_from diff' -l service -x -d 'Compare the customer ports of only this service'
+complete -c pbnet -n '__fish_seen_subcommand_from diff' -l all-failures -d 'Report every failure, also those that change nothing; JSON always does'
 complete -c pbnet -n '__fish_seen_subcommand_from diff' -l format -x -a 'text json' -d 'Format of the report [default: text]'
 complete -c pbnet -n '__fish_seen_subcommand_from diff' -l ticks -x -d 'Wait at most N ticks for convergence [default: 200] [range: 1-1000000]'
 complete -c pbnet -n '__fish_seen_subcommand_from diff' -s h -l help -d 'Print help'
@@ -65,6 +71,13 @@ complete -c pbnet -n '__fish_seen_subcommand_from draw' -s o -l output -r -F -d 
 complete -c pbnet -n '__fish_seen_subcommand_from draw' -l ticks -x -d 'Wait at most N ticks for convergence [default: 200] [range: 1-1000000]'
 complete -c pbnet -n '__fish_seen_subcommand_from draw' -s h -l help -d 'Print help'
 complete -c pbnet -n '__fish_seen_subcommand_from draw' -F
+complete -c pbnet -n '__fish_seen_subcommand_from trace' -l to -x -d 'Destination: an address, broadcast, or a customer port for its station [default: broadcast]'
+complete -c pbnet -n '__fish_seen_subcommand_from trace' -l from -x -d 'Source address [default: the station of <PORT>, 02-00-00-00-01-NN]'
+complete -c pbnet -n '__fish_seen_subcommand_from trace' -l ctag -x -d 'Customer\'s tag, VID or VID:PCP [default: no tag, PCP 0] [range: VID 0-4094, PCP 0-7]'
+complete -c pbnet -n '__fish_seen_subcommand_from trace' -l pcp -x -d 'Priority tag: an S-tag with VID 0 and this priority [default: no tag] [range: 0-7]'
+complete -c pbnet -n '__fish_seen_subcommand_from trace' -l bpdu -d 'BPDU of a customer: to 01-80-C2-00-00-00, with LLC 42 42 03'
+complete -c pbnet -n '__fish_seen_subcommand_from trace' -l ethertype -x -d 'EtherType in four hexadecimal digits [default: 0800] [range: 0600-ffff]'
+complete -c pbnet -n '__fish_seen_subcommand_from trace' -l length -x -d 'Fill the frame with zeros to N octets [default: not filled] [range: 14-65535]'
 complete -c pbnet -n '__fish_seen_subcommand_from trace' -l then -x -d 'Inject another frame once the one before is traced; may be repeated'
 complete -c pbnet -n '__fish_seen_subcommand_from trace' -l down -x -d 'First disable a link, a bridge with all of its links, or one port BRIDGE:PORT; may be repeated'
 complete -c pbnet -n '__fish_seen_subcommand_from trace' -l format -x -a 'text json' -d 'Format of the report [default: text]'
@@ -76,5 +89,7 @@ complete -c pbnet -n '__fish_seen_subcommand_from show' -s h -l help -d 'Print h
 complete -c pbnet -n '__fish_seen_subcommand_from init' -l line -x -d 'Connect N bridges in a line [default: 2] [range: 1-32]'
 complete -c pbnet -n '__fish_seen_subcommand_from init' -l ring -x -d 'Connect N bridges in a ring, with RSTP [range: 3-32]'
 complete -c pbnet -n '__fish_seen_subcommand_from init' -l star -x -d 'Connect N bridges in a star, with the first as its centre [range: 2-17]'
+complete -c pbnet -n '__fish_seen_subcommand_from init' -l dual-homed -x -d 'Connect N access bridges to two bridges each of a ring of four, with RSTP [range: 2-24]'
+complete -c pbnet -n '__fish_seen_subcommand_from init' -l services -x -d 'Give N services a customer port at each site [default: 1] [range: 1-4]'
 complete -c pbnet -n '__fish_seen_subcommand_from init' -s h -l help -d 'Print help'
 complete -c pbnet -n '__fish_seen_subcommand_from help' -a 'flat check step run control tree survive diff draw trace show init'
