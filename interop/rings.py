@@ -28,7 +28,7 @@ from streams import Peer
 SIZES, PLAIN_SIZES = (4, 6, 12, 16, 20), (4, 6)
 # Seconds between frames, of a ring before its first failure, from a repair to the next failure, for which frames must
 # arrive after a failure, and for which a trial waits for that.
-PERIOD, AGE, REST, CLEAN, PATIENCE = 0.005, 61, 32, 1.0, 90
+PERIOD, AGE, REST, CLEAN, PATIENCE = 0.005, 61, 61, 1.0, 90
 WITHOUT_KEY = bool(os.environ.get("RINGS_PLAIN"))
 PROMPT, PLAIN, OTHER = "`prompt` left out" if WITHOUT_KEY else "`prompt = true`", "`prompt = false`", "Open vSwitch"
 ROLES = ("Root", "Designated", "Alternate", "Backup", "Disabled")
