@@ -78,6 +78,20 @@ def link_side(chance, table, side, services):
     )
 
 
+def both_ends(chance, table, services):
+    """Sometimes gives a link a key for both ends. An end seldom has its own key beside it, which `check` refuses."""
+    sometimes(chance, 0.15, table, "cost", lambda: chance.choice([1, 19999, 200000000]))
+    sometimes(chance, 0.1, table, "services", lambda: chance.sample(services, chance.randint(0, len(services))))
+    for key in ("cost", "services"):
+        if key in table and chance.random() < 0.9:
+            remove_own(table, key)
+
+
+def remove_own(table, key):
+    for side in "ab":
+        table.pop(f"{side}_{key}", None)
+
+
 def losses(chance):
     return sorted(chance.sample(range(40), chance.randint(0, 8)))
 
@@ -90,6 +104,7 @@ def link_tables(chance, bridges, services, free):
             table[side] = bridges[bridge]["name"]
             table[side + "_port"] = free_port(chance, free, bridge)
             link_side(chance, table, side, services)
+        both_ends(chance, table, services)
         sometimes(chance, 0.2, table, "lost_ab", lambda: losses(chance))
         sometimes(chance, 0.2, table, "lost_ba", lambda: losses(chance))
         tables.append(table)
@@ -128,7 +143,8 @@ def plan(chance):
 
 
 def step_plan(chance):
-    """Returns a plan that `step` accepts: at most one clock, `hold` only with a clock, `prompt` only with rstp."""
+    """Returns a plan that `step` accepts: at most one clock, `hold` only with a clock, `prompt` only with rstp, and the
+    keys of ends not beside those for both."""
     document = plan(chance)
     network = document["network"]
     if network.get("tick_every"):
@@ -137,6 +153,10 @@ def step_plan(chance):
         network.pop("hold", None)
     if network.get("spanning") != "rstp":
         network.pop("prompt", None)
+    for table in document["link"]:
+        for key in ("cost", "services"):
+            if key in table:
+                remove_own(table, key)
     return document
 
 

@@ -85,7 +85,7 @@ def put_wrong(chance, document):
 def second_keys():
     return {
         "network": ["ring", "steps"],
-        "link": ["a_services", "lost_ab", "b_state", "a_cost"],
+        "link": ["a_services", "lost_ab", "b_state", "a_cost", "cost", "services"],
         "bridge": ["queue", "priority"],
     }
 
@@ -133,7 +133,7 @@ def put_services(chance, document):
     if isinstance(rows, list) and rows and isinstance(rows[0], dict):
         names = [row.get("name") for row in document.get("service", []) if isinstance(row, dict)] + ["nobody"]
         names = [name for name in names if isinstance(name, str)]
-        chance.choice(rows)[chance.choice(["a_services", "b_services"])] = chance.sample(
+        chance.choice(rows)[chance.choice(["a_services", "b_services", "services"])] = chance.sample(
             names, chance.randint(1, len(names))
         )
 

@@ -131,6 +131,8 @@ KEYS = {
         ("b_services", SERVICES, None),
         ("lost_ab", LOSSES, []),
         ("lost_ba", LOSSES, []),
+        ("cost", number(1, 200000000), None),
+        ("services", SERVICES, None),
     ],
     "service": [("name", text(NAME), NONE), ("vid", number(1, 4094), NONE)],
     "event": [
@@ -241,12 +243,22 @@ def use(used, bridge, port):
     used.add((bridge, port))
 
 
+def share(table, row, place):
+    """Gives both ends the values of the keys for both. Neither end may have its own key beside one."""
+    for key in ("cost", "services"):
+        for side in "ab" if key in table else "":
+            if f"{side}_{key}" in table:
+                raise Fault(f"5 range link[{place}].{side}_{key}")
+            row[f"{side}_{key}"] = row[key]
+
+
 def read_links(document, bridges, used):
     rows = []
     names = service_names(document)
     for place, table in enumerate(tables_of(document, "link")):
         row = read_table(table, f"link[{place}]", "link")
         refuse_twice(rows, row, "name")
+        share(table, row, place)
         ends = [index_of(bridges, row["a"]), index_of(bridges, row["b"])]
         for side in "ab":
             for name in row[side + "_services"] or []:

@@ -220,7 +220,7 @@ def tree_rows(table, folder):
     }
     for number in range(200):
         chance = random.Random(f"wireshark/{number}")
-        plan = generate.plan(chance)
+        plan = generate.step_plan(chance)
         if plan["network"].get("spanning") == "rstp" and len(plan["link"]) > 2 and "steps" not in plan["network"]:
             plans[f"random plan {number}"] = generate.toml(plan), generate.script(chance, plan)
         if len(plans) == 22:

@@ -34,6 +34,8 @@ const PLAN_KEYS: &str =
   a_state, b_state        "discarding", "learning", "forwarding", if "fixed" [default: "forwarding"]
   a_services, b_services  The services that each end carries, a list of names [default: all services]
   lost_ab, lost_ba        Numbers of the frames lost from a to b, or back, from 0 on [default: []]
+  cost                    The path cost of both ends, in place of a_cost and b_cost [range: 1-200000000]
+  services                The services that both ends carry, in place of a_services and b_services
 
 [[service]], at most 64
   name                    A name

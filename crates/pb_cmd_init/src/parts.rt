@@ -26,6 +26,9 @@ const LINK_KEYS: &str = "\
 #b_state = \"forwarding\"\n\
 #a_services = [\"red\"]\n\
 #b_services = [\"red\"]\n\
+# Of both ends, in place of those keys of an end:\n\
+#cost = 20000\n\
+#services = [\"red\"]\n\
 # The numbers of the frames that the link loses from a to b, and back. The first frame has number 0.\n\
 #lost_ab = [0]\n\
 #lost_ba = [2, 3]\n";

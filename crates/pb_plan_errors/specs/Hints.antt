@@ -1,14 +1,18 @@
 -- The hints of errors.
-use Rattle.std.specs.Prelude.{◌≡◌, ℕ, List, codes, ◌++◌, string_bytes, option_map, Option, Some, None, IfSome, String}
+use Rattle.std.specs.Prelude.{◌≡◌, ℕ, List, codes, ◌++◌, ◌||◌, string_bytes, option_map, option_and_then}
+use Rattle.std.specs.Prelude.{Option, Some, None, IfSome, String, if◌then◌else◌}
 use Rattle.std.specs.Fmt.{decimal}
 use Rattle.std.specs.declared.alloc.Global.{Global}
 use Rattle.toml.specs.Data.{Members}
+use Rattle.pb_frame.specs.Admission.{same}
 use Rattle.pb_diagnostics.specs.Nearest.{nearest}
 use Rattle.pb_diagnostics.specs.declared.site.Site.{Site}
 use Rattle.pb_diagnostics.specs.declared.site.Site.TheVariants.{RowKey}
 use Rattle.pb_service.specs.declared.fault.PlanFault.{PlanFault}
-use Rattle.pb_service.specs.declared.fault.PlanFault.TheVariants.{Unknown, Twice, NoSuch, LinkEnd}
+use Rattle.pb_service.specs.declared.fault.PlanFault.TheVariants.{Range, Unknown, Twice, NoSuch, LinkEnd}
+use Rattle.pb_service.specs.Told.{has_key}
 use Rattle.pb_plan_errors.specs.Marks.{IsLineOf}
+use Rattle.pb_plan_errors.specs.Messages.{table_of_key}
 use Rattle.pb_plan_errors.specs.Paths.{word_of, key_of}
 use Rattle.pb_plan_errors.specs.Rows.{name_at, names_at, named_by}
 use Rattle.pb_plan_errors.specs.Rules.{keys_of}
@@ -33,9 +37,30 @@ abbrev pub TellsOther : List ℕ → Members → Option Site → Option (String 
 TellsOther file document None hint = hint ≡ None
 TellsOther file document (Some other) hint = IfSome hint (λ h. TellsLine file document other (string_bytes h))
 
--- the hint for a fault: the nearest key of the table, the nearest name of the plan, or the line of the other key
+-- the key for both ends of a link that is in place of a key of one end
+abbrev pub key_for_both : List ℕ → Option (List ℕ)
+key_for_both key =
+    if same key (codes "a_cost") || same key (codes "b_cost") then Some (codes "cost")
+    else if same key (codes "a_services") || same key (codes "b_services") then Some (codes "services") else None
+
+-- a key is for both ends, beside a key of one end
+abbrev pub is_for_both : List ℕ → List ℕ → List ℕ
+is_for_both both key = both ++ codes " is for both ends; remove " ++ key ++ codes " or " ++ both
+
+-- a table has a key for both ends beside this key of one end
+abbrev pub both_hint : Members → List ℕ → Option (List ℕ)
+both_hint row key =
+    option_and_then (λ both. if has_key row both then Some (is_for_both both key) else None) (key_for_both key)
+
+-- the hint for a value that is not allowed: the table of the key has another key, which is for both ends
+abbrev pub range_hint : Members → Site → Option (List ℕ)
+range_hint document site = option_and_then (λ row. both_hint row (key_of site)) (table_of_key document site)
+
+-- the hint for a fault: the nearest key of the table, the nearest name of the plan, the line of the other key, or the
+-- key for both ends
 abbrev pub IsHint : List ℕ → Members → PlanFault → Finding → Option (String Global) → Type 0
 IsHint file document (Unknown path) f hint = option_map string_bytes hint ≡ meant (key_of f.about) (keys_of (word_of f.about))
+IsHint file document (Range path) f hint = option_map string_bytes hint ≡ range_hint document f.about
 IsHint file document (NoSuch name) f hint = option_map string_bytes hint ≡ meant name (names_at document (named_by (key_of f.about)))
 IsHint file document (Twice name) f hint = TellsOther file document f.other hint
 IsHint file document LinkEnd f hint = TellsOther file document f.other hint

@@ -100,7 +100,12 @@ fn lacking(document: &Table, word: &str, row: &Table, name: &str) -> Option<&'st
     match word {
         "link" => match unnamed(document, row, name, &["a", "b"]) {
             Some(key) => Some(key),
-            None => unlisted(document, row, name, &["a_services", "b_services"]),
+            None => unlisted(
+                document,
+                row,
+                name,
+                &["services", "a_services", "b_services"],
+            ),
         },
         "event" => unnamed(document, row, name, &["bridge"]),
         "port" => unnamed(document, row, name, &["bridge", "service"]),

@@ -3,12 +3,15 @@
 ghost use Rattle.std.specs.Prelude.{◌≡◌, map, option_map, string_bytes, IfOk, IfSome};
 ghost use Rattle.toml.specs.View.{table_view};
 ghost use Rattle.pb_plan_errors.specs.Hints.{meant, has_it, TellsLine, TellsOther, IsHint};
+ghost use Rattle.pb_plan_errors.specs.Hints.{key_for_both, is_for_both, both_hint, range_hint};
 ghost use Rattle.pb_plan_errors.specs.Rules.{keys_of};
 
 use crate::finding::Finding;
 use crate::marking::line_of;
+use crate::message::table_of_key;
 use crate::names::{name_at, named_by, names_of};
 use crate::path::word_and_key;
+use crate::row::has_key;
 use crate::rule::{Rule, rules_of};
 use pb_diagnostics::{Site, nearest};
 use pb_frame::Memory;
@@ -101,7 +104,50 @@ fn other_hint(
     }
 }
 
-/// Returns the hint of an error, if there is one: the nearest name or key, or the line of the other use.
+/// Returns the key for both ends of a link that is in place of a key of one end.
+fn key_for_both(key: &str) -> Option<&'static str>
+    ensures { option_map (λ both. both.now) result ≡ key_for_both key.now }
+{
+    if key == "a_cost" || key == "b_cost" {
+        Some("cost")
+    } else if key == "a_services" || key == "b_services" {
+        Some("services")
+    } else {
+        None
+    }
+}
+
+/// Returns the hint that a key is for both ends of a link, beside a key of one end.
+fn is_for_both(alloc: Global, both: &str, key: &str) -> Result<String, Memory>
+    ensures { IfOk result (λ h. string_bytes h ≡ is_for_both both.now key.now) }
+{
+    Ok(format!(in alloc; "{both} is for both ends; remove {key} or {both}")?)
+}
+
+/// Returns the hint that a table has a key for both ends beside a key of one end, if it has one.
+fn both_hint(alloc: Global, row: &Table, key: &str) -> Result<Option<String>, Memory>
+    ensures { IfOk result (λ hint. option_map string_bytes hint ≡ both_hint (table_view row.now) key.now) }
+{
+    match key_for_both(key) {
+        Some(both) if has_key(row, both) => Ok(Some(is_for_both(alloc, both, key)?)),
+        _ => Ok(None),
+    }
+}
+
+/// Returns the hint for a value that is not allowed: that another key is for both ends, if the table has one.
+fn range_hint(alloc: Global, document: &Table, site: Site<'_>) -> Result<Option<String>, Memory>
+    ensures { IfOk result (λ hint. option_map string_bytes hint
+        ≡ range_hint (table_view document.now) site.entry) }
+{
+    let (_, key) = word_and_key(site);
+    match table_of_key(document, site) {
+        Some(row) => both_hint(alloc, row, key),
+        None => Ok(None),
+    }
+}
+
+/// Returns the hint of an error, if there is one: the nearest name or key, the line of the other use, or the key for
+/// both ends of a link.
 ///
 /// # Errors
 ///
@@ -125,9 +171,9 @@ pub(crate) fn hint_of(
         PlanFault::Twice(_) | PlanFault::LinkEnd => {
             other_hint(alloc, file, document, finding.other)
         }
+        PlanFault::Range(_) => range_hint(alloc, document, finding.about),
         PlanFault::Missing(_)
         | PlanFault::Kind(_)
-        | PlanFault::Range(_)
         | PlanFault::TooMany
         | PlanFault::Utf8
         | PlanFault::Toml

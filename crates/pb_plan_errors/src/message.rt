@@ -11,7 +11,7 @@ use crate::ends::bridge_key;
 use crate::finding::most_of;
 use crate::names::{name_at, named_by};
 use crate::path::word_and_key;
-use crate::row::{integer_at, text_at};
+use crate::row::{are_names, integer_at, items_at, text_at};
 use crate::rule::rule_of;
 use pb_diagnostics::{Site, row_at, table_at};
 use pb_frame::Memory;
@@ -77,7 +77,7 @@ fn put_is_not(out: &mut String, key: &str, value: &str, wanted: &str) -> Result<
 }
 
 /// Returns the table of a key, if it is there.
-fn table_of_key<'a>(document: &'a Table, site: Site<'_>) -> Option<&'a Table>
+pub(crate) fn table_of_key<'a>(document: &'a Table, site: Site<'_>) -> Option<&'a Table>
     ensures { option_map (λ t. table_view t.now) result ≡ table_of_key (table_view document.now) site.entry }
 {
     match site {
@@ -98,6 +98,12 @@ fn conflict_of(word: &str, key: &str, row: &Table) -> Option<&'static str> {
             Some("allowed without tick_ms or tick_every")
         }
         ("network", "prompt") => Some("allowed without spanning = \"rstp\""),
+        ("link", "a_cost" | "b_cost") if 1 <= number && number <= 200_000_000 => {
+            Some("allowed beside cost")
+        }
+        ("link", "a_services" | "b_services") if are_names(items_at(row, key)) => {
+            Some("allowed beside services")
+        }
         ("event", "port") if 1 <= number && number <= 16 => Some("an end of a link"),
         ("port", "stamp") if text_at(row, key) == "time" => Some("allowed without tick_ms"),
         _ => None,

@@ -5,8 +5,10 @@ ghost use Rattle.toml.specs.Data.{get_member};
 ghost use Rattle.toml.specs.View.{view, items_view, table_view};
 ghost use Rattle.pb_plan_errors.specs.Rows.{integer_at};
 ghost use Rattle.pb_service.specs.Tables.{text_at, items_at};
+ghost use Rattle.pb_service.specs.Told.{has_key};
 ghost use Rattle.pb_service.specs.Values.{text_in};
 
+use pb_lan::is_name;
 use toml::{Table, Value};
 
 /// Returns the value at a key, if there is one.
@@ -14,6 +16,16 @@ fn value_at<'a>(table: &'a Table, key: &str) -> Option<&'a Value>
     ensures { option_map (λ v. view v.now) result ≡ get_member key.now (table_view table.now) }
 {
     table.get(key)
+}
+
+/// Returns whether a table has the key.
+pub(crate) fn has_key(row: &Table, key: &str) -> bool
+    ensures { result ≡ has_key (table_view row.now) key.now }
+{
+    match value_at(row, key) {
+        Some(_) => true,
+        None => false,
+    }
 }
 
 /// Returns the text of a value, or the empty text if it isn't a text.
@@ -57,4 +69,18 @@ pub(crate) fn items_at<'a>(row: &'a Table, key: &str) -> &'a [Value]
         },
         None => &[],
     }
+}
+
+/// Returns whether the items are different names.
+pub(crate) fn are_names(items: &[Value]) -> bool {
+    for (index, item) in items.iter().enumerate() {
+        let Some(name) = item.as_str() else {
+            return false;
+        };
+        let (earlier, _) = items.split_at(index);
+        if !is_name(name.as_bytes()) || earlier.iter().any(|other| other.as_str() == Some(name)) {
+            return false;
+        }
+    }
+    true
 }

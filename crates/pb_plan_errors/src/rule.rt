@@ -71,7 +71,7 @@ static BRIDGE: [Rule; 4] = [
     rule!("queue", INTEGER, QUEUE),
 ];
 
-static LINK: [Rule; 15] = [
+static LINK: [Rule; 17] = [
     rule!("name", STRING, NAME),
     rule!("a", STRING, NAME),
     rule!("a_port", INTEGER, PORT),
@@ -87,6 +87,8 @@ static LINK: [Rule; 15] = [
     rule!("b_services", STRINGS, NAMES),
     rule!("lost_ab", INTEGERS, RISING),
     rule!("lost_ba", INTEGERS, RISING),
+    rule!("cost", INTEGER, COST),
+    rule!("services", STRINGS, NAMES),
 ];
 
 static SERVICE: [Rule; 2] = [

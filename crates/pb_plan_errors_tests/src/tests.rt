@@ -1,5 +1,7 @@
 //! The errors of plan files.
 
+mod both_ends;
+
 use pb_diagnostics::put_diagnostic;
 use pb_frame::Text;
 use pb_plan_errors::{fault_error, plan_error, plan_errors};

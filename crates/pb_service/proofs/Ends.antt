@@ -22,9 +22,9 @@ use Rattle.pb_service.specs.Formats.{link_keys}
 use Rattle.pb_service.specs.Told.{rows_of}
 use Rattle.pb_service.specs.Tables.{IsLinkOf, IsCustomerOf, IsPortSpecOf, IsRead, IsReadPort}
 use Rattle.pb_service.specs.UsedPorts.{is_used, port_of}
-use Rattle.pb_service.specs.Refusals.{Refuses, RefusesStamp, HasTables, LinkLacks, CustomerLacks, link_ports}
+use Rattle.pb_service.specs.Refusals.{Refuses, RefusesStamp, HasTables, RefusesLink, CustomerLacks, link_ports}
 use Rattle.pb_service.specs.Refusals.{customer_ports, names_of, network_limits, used_twice, no_bridge, no_service}
-use Rattle.pb_service.specs.Refusals.{no_listed, no_time, no_memory}
+use Rattle.pb_service.specs.Refusals.{no_listed, doubled, no_time, no_memory}
 use Rattle.pb_service.proofs.Refusing.{Table, passed_on}
 use Rattle.pb_service.proofs.Allowed.{number_below}
 
@@ -138,17 +138,20 @@ port_refused document row i services c used e at told before (inr (t, twice)) =
     let low : 1 ≤ c.bridge = (number_below 1 (names_of document Bridge) _ c.bridge told.bridge).0 in
     rw t (used_twice document p (record { before = used; behind = rest; stands = whole; again = twice; bridge = low }))
 
--- a link that names something unknown refuses the document
+-- a link that names something unknown, or has a key of an end beside that for both ends, refuses the document
 pub link_refused : (document row : Members) (i : ℕ) (e : PlanFault) → slice_get (rows_of document Link) i ≡ Some row
-    → LinkLacks (names_of document Bridge) (names_of document Service) row e → Refuses document e
-link_refused document row i e at (inl m) = rw m (no_memory document)
+    → RefusesLink (names_of document Bridge) (names_of document Service) i row e → Refuses document e
+link_refused document row i e at (inl (inl m)) = rw m (no_memory document)
+link_refused document row i e at (inl (inr (key, d, t))) = rw t (doubled document i row key at d)
 link_refused document row i e at (inr (inl (inl (t, none)))) =
     rw t (no_bridge document Link i row (codes "a") at refl none)
 link_refused document row i e at (inr (inl (inr (t, none)))) =
     rw t (no_bridge document Link i row (codes "b") at refl none)
 link_refused document row i e at (inr (inr (inl (name, t, h)))) =
+    rw t (no_listed document i row (codes "services") name at refl h.stands h.unknown)
+link_refused document row i e at (inr (inr (inr (inl (name, t, h))))) =
     rw t (no_listed document i row (codes "a_services") name at refl h.stands h.unknown)
-link_refused document row i e at (inr (inr (inr (name, t, h)))) =
+link_refused document row i e at (inr (inr (inr (inr (name, t, h))))) =
     rw t (no_listed document i row (codes "b_services") name at refl h.stands h.unknown)
 
 -- a customer port that names something unknown refuses the document
@@ -164,7 +167,7 @@ pub link_passed : {X : Type 0} (document row : Members) (bridges services : List
     (r : Result X PlanFault) (e : PlanFault)
     → bridges ≡ names_of document Bridge → services ≡ names_of document Service
     → slice_get (rows_of document Link) i ≡ Some row
-    → ((y : PlanFault) × (r ≡ Err y) × (y ≡ e)) → LinkLacks bridges services row e → IfErr r (Refuses document)
+    → ((y : PlanFault) × (r ≡ Err y) × (y ≡ e)) → RefusesLink bridges services i row e → IfErr r (Refuses document)
 link_passed document row bridges services i r e eb es at p h =
     passed_on (Refuses document) r e p (link_refused document row i e at (rw (← eb, ← es) h))
 

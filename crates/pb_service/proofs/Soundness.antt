@@ -1,6 +1,6 @@
 -- The plan of a document without repetitions is sound.
 use Rattle.std.proofs.Common.{◌≡◌, ℕ, ◌≤◌, ◌%◌, List, [], ◌∷◌, ◌++◌, length, map, take, Option, Some, None}
-use Rattle.std.proofs.Common.{IfSome, refl, sym, ap, subst, ◌∙◌, arith, length-take}
+use Rattle.std.proofs.Common.{IfSome, cond, true, false, refl, sym, ap, subst, ◌∙◌, arith, length-take}
 use Rattle.std.specs.Prelude.{codes, nat_eq}
 use Rattle.std.proofs.lemmas.List.{map-append, length-map}
 use Rattle.std.proofs.lemmas.Slice.Zip.{AllZip-long}
@@ -25,9 +25,9 @@ use Rattle.pb_service.specs.declared.used.LocalPort.{LocalPort}
 use Rattle.pb_service.specs.declared.section.Section.TheVariants.{Bridge, Link, Service, Port}
 use Rattle.pb_service.specs.Keys.{with_default, without_default, IsTaken}
 use Rattle.pb_service.specs.Formats.{bridge_keys, link_keys, service_keys}
-use Rattle.pb_service.specs.Told.{rows_of, items_told}
-use Rattle.pb_service.specs.Tables.{text_at, services_told, EndNames, a_names, b_names, IsBridgeOf, IsServiceOf}
-use Rattle.pb_service.specs.Tables.{IsEndOf, IsLinkOf, IsCustomerOf, IsRead, IsReadPort}
+use Rattle.pb_service.specs.Told.{rows_of, items_told, has_key}
+use Rattle.pb_service.specs.Tables.{text_at, services_told, key_for, EndNames, a_names, b_names, IsBridgeOf}
+use Rattle.pb_service.specs.Tables.{IsServiceOf, IsEndOf, IsLinkOf, IsCustomerOf, IsRead, IsReadPort}
 use Rattle.pb_service.specs.Refusals.{names_of, link_ports, customer_ports, ports_told}
 use Rattle.pb_service.specs.UsedPorts.{AreUsedOnce}
 use Rattle.pb_service.specs.PlanFiles.{IsPlanOf}
@@ -94,16 +94,28 @@ services_sound count known None e = tt
 services_sound count known (Some d) e = listed_numbers count (take 64 known) (items_told (Some d))
     (omega (arith, length-take 64 known))
 
+-- the cost of an end is accepted, at whichever of the two keys it is
+cost_taken : (row : Members) (both own : List ℕ)
+    → IsTaken (with_default own (Number 1 200000000)) (get_member own row)
+    → IsTaken (with_default both (Number 1 200000000)) (get_member both row)
+    → IsTaken (with_default (key_for row both own) (Number 1 200000000)) (get_member (key_for row both own) row)
+cost_taken row both own mine shared =
+    elim (has_key row both)
+    as (λ b. IsTaken (with_default (cond b both own) (Number 1 200000000)) (get_member (cond b both own) row))
+    [ true ↦ shared | false ↦ mine ]
+
 end_sound : (plan : Plan) (known : List (List ℕ)) (row : Members) (k : EndNames) (e : End)
     → length known ≡ length plan.services → IsEndOf known row k e → IsNumber e.bridge (length plan.bridges)
     → IsTaken (without_default k.port (Number 1 16)) (get_member k.port row)
     → IsTaken (with_default k.cost (Number 1 200000000)) (get_member k.cost row)
+    → IsTaken (with_default (codes "cost") (Number 1 200000000)) (get_member (codes "cost") row)
     → IsTaken (with_default k.priority PortPriority) (get_member k.priority row) → IsSoundEnd plan e
-end_sound plan known row k e count told bridge port cost priority = record {
+end_sound plan known row k e count told bridge port cost shared priority = record {
   bridge = bridge;
   port = subst (λ n. IsNumber n 16) (sym told.port) (needed k.port 1 16 0 16 _ (omega arith) port);
   cost = subst (λ n. IsNumber n 200000000) (sym told.cost)
-      (defaulted k.cost 1 200000000 20000 200000000 _ (omega arith) (omega arith) (omega arith) cost);
+      (defaulted (key_for row (codes "cost") k.cost) 1 200000000 20000 200000000 _ (omega arith) (omega arith)
+      (omega arith) (cost_taken row (codes "cost") k.cost cost shared));
   priority = subst (λ n. (n % 16 ≡ 0) × (n ≤ 240)) (sym told.priority) (port_priority k.priority _ priority);
   services = subst (λ (s : Option (List ℕ)). IfSome s
       (λ services. Rises services × AllByRecursion (λ n. IsNumber n (length plan.services)) services))
@@ -115,14 +127,15 @@ ends_sound : (plan : Plan) (bridges services : List (List ℕ)) (row : Members) 
     → length bridges ≡ length plan.bridges → length services ≡ length plan.services
     → IsRead (IsLinkOf bridges services) link_keys row l → AllByRecursion (IsSoundEnd plan) (ends_of l)
 ends_sound plan bridges services row l eb es r =
-    let keys = r.accepted.taken in (
+    let keys = r.accepted.taken in
+    let shared = keys.1.1.1.1.1.1.1.1.1.1.1.1.1.1.1.0 in (
       end_sound plan services row a_names l.a es r.told.a
           (named_number (length plan.bridges) bridges _ l.a.bridge eb r.told.a_bridge) keys.1.1.0 keys.1.1.1.1.1.0
-          keys.1.1.1.1.1.1.1.0,
+          shared keys.1.1.1.1.1.1.1.0,
       (
         end_sound plan services row b_names l.b es r.told.b
             (named_number (length plan.bridges) bridges _ l.b.bridge eb r.told.b_bridge) keys.1.1.1.1.0
-            keys.1.1.1.1.1.1.0 keys.1.1.1.1.1.1.1.1.0,
+            keys.1.1.1.1.1.1.0 shared keys.1.1.1.1.1.1.1.1.0,
         tt,
       ),
     )

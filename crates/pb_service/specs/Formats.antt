@@ -55,6 +55,8 @@ link_keys =
     ∷ with_default (codes "b_services") Names
     ∷ with_default (codes "lost_ab") Losses
     ∷ with_default (codes "lost_ba") Losses
+    ∷ with_default (codes "cost") (Number 1 200000000)
+    ∷ with_default (codes "services") Names
     ∷ []
 
 -- the keys of a service

@@ -21,7 +21,7 @@ use Rattle.pb_service.specs.Keys.{RefusesRow, SomeOf, first_unknown}
 use Rattle.pb_service.specs.Formats.{top_keys, network_keys, event_keys, keys_of}
 use Rattle.pb_service.specs.Told.{rows_of, names_in, number_from, table_told, spanning_of}
 use Rattle.pb_service.specs.Clocks.{lacks_time, RefusesClocks, RefusesPrompt}
-use Rattle.pb_service.specs.Tables.{number_at, text_at, items_at, is_one_of, limits_told, prompt_told}
+use Rattle.pb_service.specs.Tables.{number_at, text_at, items_at, is_one_of, doubled_key, limits_told, prompt_told}
 
 -- there is no value, or it is a table
 abbrev pub is_table : Option Data → Bool
@@ -48,7 +48,7 @@ names_bridge section key = false
 
 -- the keys that list services
 abbrev pub lists_services : List ℕ → Bool
-lists_services key = same key (codes "a_services") || same key (codes "b_services")
+lists_services key = same key (codes "services") || (same key (codes "a_services") || same key (codes "b_services"))
 
 -- the local port that two keys of a table give, one for the bridge and one for the number
 abbrev pub port_told : List (List ℕ) → Members → List ℕ → List ℕ → LocalPort
@@ -126,6 +126,9 @@ pub data Refuses : Members → PlanFault → Type 0 where
       → slice_get (rows_of document Link) index ≡ Some row → lists_services key ≡ true
       → any_item (λ d. same name (text_in d)) (items_at row key) ≡ true
       → is_one_of (names_of document Service) name ≡ false → Refuses document (NoSuch name)
+  doubled : (document : Members) (index : ℕ) (row : Members) (key : List ℕ)
+      → slice_get (rows_of document Link) index ≡ Some row → doubled_key row ≡ Some key
+      → Refuses document (Range (path_at (Row Link index) key))
   used_twice : (document : Members) (port : LocalPort) → UsesTwice (ports_told document) port → Refuses document LinkEnd
   no_time : (document : Members) (index : ℕ) (row : Members)
       → slice_get (rows_of document Port) index ≡ Some row → lacks_time (network_limits document) (text_at row (codes "stamp")) ≡ true
@@ -148,11 +151,22 @@ pub record IsUnlisted (names : List (List ℕ)) (listed : Items) (name : List �
 abbrev pub LacksListed : List (List ℕ) → Items → PlanFault → Type 0
 LacksListed names listed fault = (name : List ℕ) × (fault ≡ NoSuch name) × IsUnlisted names listed name
 
--- a link names a bridge or a service that doesn't exist, or an allocation failed
-abbrev pub LinkLacks : List (List ℕ) → List (List ℕ) → Members → PlanFault → Type 0
-LinkLacks bridges services row fault =
-    (fault ≡ Memory) ⊎ ((LacksName bridges row (codes "a") fault ⊎ LacksName bridges row (codes "b") fault)
-    ⊎ (LacksListed services (items_at row (codes "a_services")) fault ⊎ LacksListed services (items_at row (codes "b_services")) fault))
+-- a link has a key of an end beside that for both ends, or an allocation failed
+abbrev pub DoublesKey : ℕ → Members → PlanFault → Type 0
+DoublesKey index row fault =
+    (fault ≡ Memory) ⊎ ((key : List ℕ) × (doubled_key row ≡ Some key) × (fault ≡ Range (path_at (Row Link index) key)))
+
+-- a link lists a service that doesn't exist
+abbrev pub LinkListsNone : List (List ℕ) → Members → PlanFault → Type 0
+LinkListsNone services row fault =
+    LacksListed services (items_at row (codes "services")) fault
+    ⊎ (LacksListed services (items_at row (codes "a_services")) fault ⊎ LacksListed services (items_at row (codes "b_services")) fault)
+
+-- a link has such a key, names a bridge or a service that doesn't exist, or an allocation failed
+abbrev pub RefusesLink : List (List ℕ) → List (List ℕ) → ℕ → Members → PlanFault → Type 0
+RefusesLink bridges services index row fault =
+    DoublesKey index row fault ⊎ ((LacksName bridges row (codes "a") fault ⊎ LacksName bridges row (codes "b") fault)
+    ⊎ LinkListsNone services row fault)
 
 abbrev pub CustomerLacks : List (List ℕ) → List (List ℕ) → Members → PlanFault → Type 0
 CustomerLacks bridges services row fault =

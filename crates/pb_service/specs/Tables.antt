@@ -1,5 +1,5 @@
 -- The contents of the tables of a plan file.
-use Rattle.std.specs.Prelude.{◌≡◌, ℕ, codes, Bool, true, false, List, [], ◌∷◌, take, Some, None, if◌then◌else◌}
+use Rattle.std.specs.Prelude.{◌≡◌, ℕ, codes, Bool, true, false, ◌&&◌, List, [], ◌∷◌, take, Some, None, if◌then◌else◌}
 use Rattle.std.specs.declared.option.Option.{Option}
 use Rattle.std.specs.List.{list_any}
 use Rattle.pb_frame.specs.Admission.{same}
@@ -103,19 +103,38 @@ a_names = record { bridge = codes "a"; port = codes "a_port"; cost = codes "a_co
 abbrev pub b_names : EndNames
 b_names = record { bridge = codes "b"; port = codes "b_port"; cost = codes "b_cost"; priority = codes "b_priority"; state = codes "b_state"; services = codes "b_services" }
 
+-- the key of an end's value: that for both ends if the table has it, otherwise the end's own
+abbrev pub key_for : Members → List ℕ → List ℕ → List ℕ
+key_for row both own = if has_key row both then both else own
+
+-- the table has a key of an end beside that for both ends
+abbrev pub is_doubled : Members → List ℕ → List ℕ → Bool
+is_doubled row both own = has_key row both && has_key row own
+
+-- the first such key of an end
+abbrev pub doubled_key : Members → Option (List ℕ)
+doubled_key row =
+    if is_doubled row (codes "cost") (codes "a_cost") then Some (codes "a_cost")
+    else if is_doubled row (codes "cost") (codes "b_cost") then Some (codes "b_cost")
+    else if is_doubled row (codes "services") (codes "a_services") then Some (codes "a_services")
+    else if is_doubled row (codes "services") (codes "b_services") then Some (codes "b_services")
+    else None
+
 -- the end of a link that a table describes, apart from its bridge, among services of these names
 pub record IsEndOf (known : List (List ℕ)) (row : Members) (k : EndNames) (e : End) : Type 0 where
   pub port : e.port ≡ number_at row k.port 0 16
-  pub cost : e.cost ≡ number_at row k.cost 20000 200000000
+  pub cost : e.cost ≡ number_at row (key_for row (codes "cost") k.cost) 20000 200000000
   pub priority : e.priority ≡ number_at row k.priority 128 240
   pub start : e.start ≡ state_of (text_at row k.state)
-  pub services : e.services ≡ services_told known (get_member k.services row)
+  pub services : e.services ≡ services_told known (get_member (key_for row (codes "services") k.services) row)
 
 -- the link that a table describes, among bridges and services of these names
 pub record IsLinkOf (bridges services : List (List ℕ)) (row : Members) (l : LinkPlan) : Type 0 where
   pub name : l.name ≡ text_at row (codes "name")
   pub a_bridge : number_from 1 bridges (text_at row (codes "a")) ≡ Some l.a.bridge
   pub b_bridge : number_from 1 bridges (text_at row (codes "b")) ≡ Some l.b.bridge
+  pub apart : doubled_key row ≡ None
+  pub both_services : are_known services (items_at row (codes "services")) ≡ true
   pub a_services : are_known services (items_at row (codes "a_services")) ≡ true
   pub b_services : are_known services (items_at row (codes "b_services")) ≡ true
   pub a : IsEndOf services row a_names l.a

@@ -69,7 +69,7 @@ static BRIDGE: [Key; 4] = [
 ];
 
 /// The keys of a link.
-static LINK: [Key; 15] = [
+static LINK: [Key; 17] = [
     needed!("name", Rule::Name),
     needed!("a", Rule::Name),
     needed!("a_port", 1..=16),
@@ -85,6 +85,8 @@ static LINK: [Key; 15] = [
     optional!("b_services", Rule::Names),
     optional!("lost_ab", Rule::Losses),
     optional!("lost_ba", Rule::Losses),
+    optional!("cost", 1..=200_000_000),
+    optional!("services", Rule::Names),
 ];
 
 /// The keys of a service.

@@ -1,17 +1,19 @@
 //! The links of a document.
 
 ghost use Rattle.std.specs.Prelude.{◌≡◌, ◌≤◌, ◌<◌, ◌⊎◌, ◌++◌, ◌∷◌, [], true, codes, length};
-ghost use Rattle.std.specs.Prelude.{map, Some, IfSome, IfNone, IfOk, IfErr, OnOk};
+ghost use Rattle.std.specs.Prelude.{map, option_map, Some, None, IfSome, IfNone, IfOk, IfErr, OnOk};
 ghost use Rattle.std.specs.List.{AllZip, IsDistinct, flat_map};
 ghost use Rattle.toml.specs.Data.{get_member};
 ghost use Rattle.toml.specs.View.{items_view, table_view};
 ghost use Rattle.pb_frame.specs.Admission.{same};
 ghost use Rattle.pb_service.specs.Formats.{link_keys};
 ghost use Rattle.pb_service.specs.Told.{rows_of, number_from};
-ghost use Rattle.pb_service.specs.Tables.{text_at, services_told, are_known, names_of_end, IsEndOf, IsLinkOf, IsRead};
+ghost use Rattle.pb_service.specs.Tables.{text_at, items_at, services_told, are_known};
+ghost use Rattle.pb_service.specs.Tables.{key_for, is_doubled, doubled_key};
+ghost use Rattle.pb_service.specs.Tables.{names_of_end, IsEndOf, IsLinkOf, IsRead};
 ghost use Rattle.pb_service.specs.UsedPorts.{is_used, port_of, AreUsedOnce};
 ghost use Rattle.pb_service.specs.Refusals.{Refuses, RefusesTable, HasTables, LacksName, LacksListed};
-ghost use Rattle.pb_service.specs.Refusals.{IsUnlisted, LinkLacks, names_of, link_ports};
+ghost use Rattle.pb_service.specs.Refusals.{IsUnlisted, DoublesKey, LinkListsNone, RefusesLink, names_of, link_ports};
 ghost use Rattle.pb_service.specs.declared.fault.PlanFault.TheVariants.{LinkEnd as link_end_fault};
 ghost use Rattle.pb_service.specs.declared.fault.PlanFault.TheVariants.{Memory as memory_fault};
 ghost use Rattle.pb_service.specs.declared.section.Section.TheVariants.{Bridge as bridge_section, Link as link_section};
@@ -19,10 +21,13 @@ ghost use Rattle.pb_service.specs.declared.section.Section.TheVariants.{Service 
 
 use crate::check::{check_row, is_one_of, no_such, put};
 use crate::fault::PlanFault;
-use crate::section::Section;
+use crate::key_fault::KeyFault;
+use crate::row::told;
+use crate::section::{KeyTable, Section};
 use crate::table::{names_of, tables_at};
 use crate::told::{
-    copy_at, items_at, naturals_in, number_at, number_of, numbers_of, state_of, text_at, value_at,
+    copy_at, has_key, items_at, naturals_in, number_at, number_of, numbers_of, state_of, text_at,
+    value_at,
 };
 use crate::used::{LocalPort, use_port};
 use crate::values::text_in;
@@ -129,6 +134,13 @@ fn services_at(
     }
 }
 
+/// Returns the key of an end's value: that for both ends if the table has it, else the end's own.
+fn key_for<'a>(row: &Table, both: &'a str, own: &'a str) -> &'a str
+    ensures { result.now ≡ key_for (table_view row.now) both.now own.now }
+{
+    if has_key(row, both) { both } else { own }
+}
+
 /// Returns the end of a link that a table describes, at the given bridge.
 fn end_of(
     alloc: Global,
@@ -144,34 +156,103 @@ fn end_of(
     Ok(End {
         bridge,
         port: number_at(row, keys.port, 0, 16) as u8,
-        cost: number_at(row, keys.cost, 20_000, 200_000_000) as u32,
+        cost: number_at(row, key_for(row, "cost", keys.cost), 20_000, 200_000_000) as u32,
         priority: number_at(row, keys.priority, 128, 240) as u8,
         start: state_of(text_at(row, keys.state)),
-        services: services_at(alloc, row, keys.services, services)?,
+        services: services_at(
+            alloc,
+            row,
+            key_for(row, "services", keys.services),
+            services,
+        )?,
     })
+}
+
+/// Returns whether a table has a key of an end beside that for both ends.
+fn is_doubled(row: &Table, both: &str, own: &str) -> bool
+    ensures { result ≡ is_doubled (table_view row.now) both.now own.now }
+{
+    has_key(row, both) && has_key(row, own)
+}
+
+/// Returns the first key of an end that a table has beside that for both ends.
+fn doubled_key(row: &Table) -> Option<&'static str>
+    ensures { option_map (λ k. k.now) result ≡ doubled_key (table_view row.now) }
+{
+    if is_doubled(row, "cost", "a_cost") {
+        Some("a_cost")
+    } else if is_doubled(row, "cost", "b_cost") {
+        Some("b_cost")
+    } else if is_doubled(row, "services", "a_services") {
+        Some("a_services")
+    } else if is_doubled(row, "services", "b_services") {
+        Some("b_services")
+    } else {
+        None
+    }
+}
+
+/// Checks that a link has no key of an end beside that for both ends.
+///
+/// # Errors
+///
+/// `Range` for the first such key, `Memory` if an allocation failed.
+fn check_apart(alloc: Global, row: &Table, index: usize) -> Result<(), PlanFault>
+    ensures ok { OnOk result (doubled_key (table_view row.now) ≡ None) }
+    ensures err { IfErr result (DoublesKey index (table_view row.now)) }
+{
+    match doubled_key(row) {
+        None => Ok(()),
+        Some(key) => {
+            let key_table = KeyTable::Row(Section::Link, index);
+            Err(told(alloc, key_table, key, KeyFault::Range))
+        }
+    }
+}
+
+/// Checks that each service that a link lists exists.
+///
+/// # Errors
+///
+/// `NoSuch` for the first that doesn't, `Memory` if an allocation failed.
+fn check_services(alloc: Global, row: &Table, services: &[&str]) -> Result<(), PlanFault>
+    ensures both { OnOk result (are_known (map (λ n. n.now) services.now)
+        (items_at (table_view row.now) (codes "services")) ≡ true) }
+    ensures a { OnOk result (are_known (map (λ n. n.now) services.now)
+        (items_at (table_view row.now) (codes "a_services")) ≡ true) }
+    ensures b { OnOk result (are_known (map (λ n. n.now) services.now)
+        (items_at (table_view row.now) (codes "b_services")) ≡ true) }
+    ensures err { IfErr result (λ e. (e ≡ memory_fault)
+        ⊎ LinkListsNone (map (λ n. n.now) services.now) (table_view row.now) e) }
+{
+    check_listed(alloc, services, items_at(row, "services"))?;
+    check_listed(alloc, services, items_at(row, A.services))?;
+    check_listed(alloc, services, items_at(row, B.services))
 }
 
 /// Returns the link that a table describes.
 ///
 /// # Errors
 ///
-/// `NoSuch` if no bridge or service has a name given, `Memory` if an allocation failed.
+/// `Range` for a key of an end beside that for both ends, `NoSuch` if no bridge or service has a name given, `Memory`
+/// if an allocation failed.
 fn link_of(
     alloc: Global,
     row: &Table,
     bridges: &[&str],
     services: &[&str],
+    index: usize,
 ) -> Result<LinkPlan, PlanFault>
     requires { length bridges.now < 256 }
     ensures ok { IfOk result (IsLinkOf (map (λ n. n.now) bridges.now) (map (λ n. n.now) services.now)
         (table_view row.now)) }
-    ensures err { IfErr result (LinkLacks (map (λ n. n.now) bridges.now) (map (λ n. n.now) services.now)
+    ensures err { IfErr result (RefusesLink (map (λ n. n.now) bridges.now) (map (λ n. n.now) services.now) index
         (table_view row.now)) }
 {
+    check_apart(alloc, row, index)?;
     let a = named(alloc, row, A.bridge, bridges)?;
     let b = named(alloc, row, B.bridge, bridges)?;
-    check_listed(alloc, services, items_at(row, A.services))?;
-    check_listed(alloc, services, items_at(row, B.services))?;
+    check_services(alloc, row, services)?;
     Ok(LinkPlan {
         name: copy_at(alloc, row, "name")?,
         a: end_of(alloc, row, &A, a, services)?,
@@ -247,7 +328,7 @@ pub(crate) fn read_links(alloc: Global, document: &Table) -> Result<Links, PlanF
     let mut links = Vec::new(alloc);
     for (index, row) in rows.iter().enumerate() {
         check_row(alloc, Section::Link, row, names, index)?;
-        let link = link_of(alloc, row, bridges, services)?;
+        let link = link_of(alloc, row, bridges, services, index)?;
         use_ends(&mut used, &link)?;
         put(&mut links, link)?;
     }

@@ -129,10 +129,30 @@ fn begun<W: Write>(
     write_plan(alloc, topology, services, writer)
 }
 
-/// Checks that the blocks of suggestions of a file, so many, can be used each alone and all together.
+/// Returns whether a line suggests a key for both ends of a link, which excludes that of an end.
+fn is_for_both_ends(line: &str) -> bool {
+    line.starts_with("#cost") || line.starts_with("#services")
+}
+
+/// Returns the file without the suggestions for both ends of a link.
+fn without_both_ends(alloc: Global, file: &[u8]) -> Result<String, AllocError> {
+    let mut text = String::new(alloc);
+    for line in std::str::from_utf8(file).unwrap_or("").lines() {
+        if !is_for_both_ends(line) {
+            text.push_str(line)?;
+            text.push('\n')?;
+        }
+    }
+    Ok(text)
+}
+
+/// Checks that the blocks of suggestions of a file, so many, can be used each alone, and all together but for those for
+/// both ends of a link.
 fn suggests(rt: &impl Abort, alloc: Global, file: &[u8], most: u32) -> Result<(), Fail> {
-    let (all, blocks) = tried(alloc, file, 0, u32::MAX)?;
+    let (_, blocks) = tried(alloc, file, 0, u32::MAX)?;
     assert_eq!(rt; blocks, most);
+    let rest = without_both_ends(alloc, file)?;
+    let (all, _) = tried(alloc, rest.as_bytes(), 0, u32::MAX)?;
     has_limits(rt, alloc, all.as_bytes(), SUGGESTED)?;
     for block in 0..blocks {
         let (one, _) = tried(alloc, file, block, block)?;
@@ -222,10 +242,10 @@ fn each_suggestion_can_be_used(rt: HostRuntime) -> Result<(), Fail> {
     let alloc = rt.alloc();
     for (topology, services, blocks, limits) in [
         (Topology::Line(1), 1, 8, UNLIMITED),
-        (Topology::Line(2), 1, 12, UNLIMITED),
-        (Topology::Ring(3), 2, 10, CLOCK),
-        (Topology::Star(4), 3, 12, UNLIMITED),
-        (Topology::DualHomed(2), 4, 10, CLOCK),
+        (Topology::Line(2), 1, 13, UNLIMITED),
+        (Topology::Ring(3), 2, 11, CLOCK),
+        (Topology::Star(4), 3, 13, UNLIMITED),
+        (Topology::DualHomed(2), 4, 11, CLOCK),
     ] {
         let mut file = Vec::new(alloc);
         assert_eq!(rt; write_plan(alloc, topology, services, &mut file), Ok(()));

@@ -1,5 +1,6 @@
 //! Tests of plan files without failing allocations.
 
+mod both_ends;
 mod faults;
 mod order;
 mod plans;

@@ -55,6 +55,9 @@ b_port = 2
 #b_state = "forwarding"
 #a_services = ["red"]
 #b_services = ["red"]
+# Of both ends, in place of those keys of an end:
+#cost = 20000
+#services = ["red"]
 # The numbers of the frames that the link loses from a to b, and back. The first frame has number 0.
 #lost_ab = [0]
 #lost_ba = [2, 3]

@@ -6,7 +6,7 @@ use std::alloc::Global;
 use std::process::Abort;
 
 /// A text of the network's file, its replacement, and the fault of the file with the replacement.
-type Change = (&'static str, &'static str, &'static str);
+pub(super) type Change = (&'static str, &'static str, &'static str);
 
 /// Returns whether the network's file has this fault after a replacement.
 fn changes(alloc: Global, (old, new, want): Change) -> Result<bool, PlanFault> {
@@ -18,7 +18,7 @@ fn changes(alloc: Global, (old, new, want): Change) -> Result<bool, PlanFault> {
 }
 
 /// Asserts that each of these replacements gives its fault.
-fn all_change(rt: &impl Abort, alloc: Global, rows: &[Change]) -> Result<(), PlanFault> {
+pub(super) fn all_change(rt: &impl Abort, alloc: Global, rows: &[Change]) -> Result<(), PlanFault> {
     for (number, row) in rows.iter().enumerate() {
         assert!(rt; changes(alloc, *row)?, "row {number}");
     }

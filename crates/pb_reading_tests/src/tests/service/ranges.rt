@@ -75,6 +75,14 @@ const NUMBERS: &[Number] = &[
         1,
         200_000_000,
     ),
+    (
+        LINK,
+        "b_port = 16\na_port = 15\n",
+        "cost",
+        "link[0].cost",
+        1,
+        200_000_000,
+    ),
     (LINK, "b_port = 2\n", "a_port", "link[0].a_port", 3, 16),
     (LINK, "a_port = 2\n", "b_port", "link[0].b_port", 3, 16),
     (
