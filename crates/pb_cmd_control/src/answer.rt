@@ -20,7 +20,7 @@ const LONGEST: usize = 65_536;
 pub enum Verdict {
     /// `ok`: the command is done.
     Done,
-    /// `no such`: the plan lacks the bridge, or its port leads to no other bridge.
+    /// `no such`: the plan lacks the link or the bridge, or both have the name, or the port leads to no other bridge.
     NoSuch,
     /// `bad`: there is no such command.
     Bad,

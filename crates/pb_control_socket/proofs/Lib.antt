@@ -1,4 +1,5 @@
 pub mod BufferLemmas
 pub mod LineTexts
+pub mod PartLemmas
 pub mod PlaceLemmas
 pub mod RequestLemmas

@@ -1,44 +1,83 @@
 -- Lines that are no request.
-use Rattle.std.proofs.Common.{◌≡◌, ◌≢◌, ℕ, Bool, List, codes, Some, Result, Ok, Err, refl, sym}
-use Rattle.std.proofs.Common.{subst, ◌∙◌}
+use Rattle.std.proofs.Common.{◌≡◌, ◌≢◌, ◌⊎◌, inl, inr, ℕ, Bool, true, false, List, codes, Option, Some, None, IfNone}
+use Rattle.std.proofs.Common.{Result, Ok, Err, refl, sym, subst, ◌∙◌}
 use Rattle.pb_frame.proofs.Things.{same_parts}
+use Rattle.pb_lan.specs.Names.{is_name}
 use Rattle.pb_lan.specs.declared.plan.Plan.{Plan}
 use Rattle.pb_step_script.specs.Lines.{IsBridgePort}
 use Rattle.pb_messages.specs.Words.{cut}
-use Rattle.pb_control_socket.specs.Requests.{way_word, AsksToSet, Asks, Reads}
+use Rattle.pb_control_socket.specs.Requests.{way_word, IsColonPort, AsksFor, AsksToSet, Asks, Reads}
 use Rattle.pb_control_socket.specs.declared.request.Request.{Request}
-use Rattle.pb_control_socket.specs.declared.request.Request.TheVariants.{Stop, Counts, Tree, Set}
+use Rattle.pb_control_socket.specs.declared.request.Request.TheVariants.{Stop, Counts, Tree, Set, SetPart}
 use Rattle.pb_control_socket.specs.declared.request.Refused.{Refused}
 use Rattle.pb_control_socket.specs.declared.request.Refused.TheVariants.{NoSuch, Bad}
 
--- a line whose first argument is neither `up` nor `down` sets no port
+-- the two words differ
+same_way : (a b : Bool) → way_word a ≡ way_word b → a ≡ b
+same_way true true e = refl
+same_way true false e = cc
+same_way false true e = cc
+same_way false false e = refl
+
+-- what follows where there is no value
+pub if_none : {A : Type 0} {P Q : Type 0} (o : Option A) → (P → Q) → IfNone o P → IfNone o Q
+if_none None f h = f h
+if_none (Some x) f h = tt
+
+-- arguments that are no port in either form name none
+pub neither_port : (plan : Plan) (words : List ℕ) → ((bridge port : ℕ) → IsBridgePort plan words bridge port → ⊥)
+    → ((bridge port : ℕ) → IsColonPort plan words bridge port → ⊥)
+    → (bridge port : ℕ) → IsBridgePort plan words bridge port ⊎ IsColonPort plan words bridge port → ⊥
+neither_port plan words spaced colon bridge port (inl at) = spaced bridge port at
+neither_port plan words spaced colon bridge port (inr at) = colon bridge port at
+
+-- arguments that are no port and no name ask for nothing
+pub asks_nothing : (plan : Plan) (words : List ℕ) (up : Bool)
+    → ((bridge port : ℕ) → IsBridgePort plan words bridge port ⊎ IsColonPort plan words bridge port → ⊥)
+    → is_name words ≡ false → (request : Request) → AsksFor plan words up request → ⊥
+asks_nothing plan words up no_port no_name Stop asks = asks
+asks_nothing plan words up no_port no_name Counts asks = asks
+asks_nothing plan words up no_port no_name Tree asks = asks
+asks_nothing plan words up no_port no_name (Set bridge port way) asks = no_port bridge port asks.1
+asks_nothing plan words up no_port no_name (SetPart part way) asks =
+    let named = asks.1 in cc
+
+-- a line whose first argument is neither `up` nor `down` sets nothing
 pub no_way : (plan : Plan) (line word words : List ℕ) → cut line ≡ Some (word, words)
-    → ((up : Bool) → word ≡ way_word up → ⊥)
-    → (bridge port : ℕ) (up : Bool) → AsksToSet plan line bridge port up → ⊥
-no_way plan line word words parts none bridge port up w =
-    none up (sym (same_parts (way_word up) w.words word words (sym w.parts ∙ parts)).0)
+    → ((up : Bool) → word ≡ way_word up → ⊥) → (request : Request) → AsksToSet plan line request → ⊥
+no_way plan line word words parts none request w =
+    none w.up (sym (same_parts (way_word w.up) w.words word words (sym w.parts ∙ parts)).0)
 
--- a line whose other arguments are no bridge and port sets no port
-pub no_port : (plan : Plan) (line word words : List ℕ) → cut line ≡ Some (word, words)
-    → ((bridge port : ℕ) → IsBridgePort plan words bridge port → ⊥)
-    → (bridge port : ℕ) (up : Bool) → AsksToSet plan line bridge port up → ⊥
-no_port plan line word words parts none bridge port up w =
-    none bridge port (subst (λ t. IsBridgePort plan t bridge port)
-    (same_parts (way_word up) w.words word words (sym w.parts ∙ parts)).1 w.at)
+-- a line whose other arguments ask for nothing sets nothing
+pub no_change : (plan : Plan) (line word words : List ℕ) (up : Bool) → cut line ≡ Some (word, words)
+    → word ≡ way_word up → ((request : Request) → AsksFor plan words up request → ⊥)
+    → (request : Request) → AsksToSet plan line request → ⊥
+no_change plan line word words up parts way none request w =
+    let same = same_parts (way_word w.up) w.words word words (sym w.parts ∙ parts) in
+    let there = subst (λ t. AsksFor plan t w.up request) same.1 w.asks in
+    none request (subst (λ b. AsksFor plan words b request) (same_way w.up up (same.0 ∙ way)) there)
 
--- a line that is no single argument and no setting is no request
+-- a line that sets something is a request
+pub set_asks : (plan : Plan) (line : List ℕ) (request : Request) → AsksToSet plan line request → Asks plan line request
+set_asks plan line Stop w = absurd w.asks
+set_asks plan line Counts w = absurd w.asks
+set_asks plan line Tree w = absurd w.asks
+set_asks plan line (Set bridge port up) w = w
+set_asks plan line (SetPart part up) w = w
+
+-- a line that is no single argument and sets nothing is no request
 no_request : (plan : Plan) (line : List ℕ) → line ≢ codes "stop" → line ≢ codes "counts" → line ≢ codes "tree"
-    → ((bridge port : ℕ) (up : Bool) → AsksToSet plan line bridge port up → ⊥)
-    → (request : Request) → Asks plan line request → ⊥
+    → ((request : Request) → AsksToSet plan line request → ⊥) → (request : Request) → Asks plan line request → ⊥
 no_request plan line no_stop no_counts no_tree no_set Stop asks = no_stop asks
 no_request plan line no_stop no_counts no_tree no_set Counts asks = no_counts asks
 no_request plan line no_stop no_counts no_tree no_set Tree asks = no_tree asks
-no_request plan line no_stop no_counts no_tree no_set (Set bridge port up) asks = no_set bridge port up asks
+no_request plan line no_stop no_counts no_tree no_set (Set bridge port up) asks = no_set (Set bridge port up) asks
+no_request plan line no_stop no_counts no_tree no_set (SetPart part up) asks = no_set (SetPart part up) asks
 
 -- what is read of a line that is no single argument
 pub reads_set : (plan : Plan) (line : List ℕ) (r : Result Request Refused) → line ≢ codes "stop"
     → line ≢ codes "counts" → line ≢ codes "tree" → (r ≢ Err Bad → Reads plan line r)
-    → (r ≡ Err Bad → (bridge port : ℕ) (up : Bool) → AsksToSet plan line bridge port up → ⊥) → Reads plan line r
+    → (r ≡ Err Bad → (request : Request) → AsksToSet plan line request → ⊥) → Reads plan line r
 reads_set plan line (Ok request) no_stop no_counts no_tree read bad = read (λ e. cc)
 reads_set plan line (Err NoSuch) no_stop no_counts no_tree read bad = read (λ e. cc)
 reads_set plan line (Err Bad) no_stop no_counts no_tree read bad = no_request plan line no_stop no_counts no_tree

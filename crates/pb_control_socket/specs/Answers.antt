@@ -1,22 +1,20 @@
 -- The effect of a line, and the reply to it.
 use Rattle.std.specs.Prelude.{◌≡◌, ℕ, List, [], ◌++◌, Result, Ok, Err}
+use Rattle.std.specs.List.{All}
 use Rattle.std.specs.declared.option.Option.{Option}
 use Rattle.pb_lan.specs.declared.plan.Plan.{Plan}
 use Rattle.pb_threads.specs.declared.view.PortView.{PortView}
 use Rattle.pb_step_script.specs.Answers.{no_such_line}
-use Rattle.pb_control_socket.specs.Requests.{Reads}
+use Rattle.pb_control_socket.specs.Requests.{Reads, changes}
 use Rattle.pb_control_socket.specs.Texts.{ok_line, bad_line, IsCountsText, IsTreeText}
 use Rattle.pb_control_socket.specs.declared.request.Request.{Request}
-use Rattle.pb_control_socket.specs.declared.request.Request.TheVariants.{Stop, Counts, Tree, Set}
+use Rattle.pb_control_socket.specs.declared.request.Request.TheVariants.{Stop, Counts, Tree, Set, SetPart}
 use Rattle.pb_control_socket.specs.declared.request.Refused.{Refused}
 use Rattle.pb_control_socket.specs.declared.request.Refused.TheVariants.{NoSuch, Bad}
 
--- the board was asked to do what the request changes
-abbrev pub IsDone : (Request → Type 0) → Request → Type 0
-IsDone was_asked Stop = was_asked Stop
-IsDone was_asked Counts = Unit {0}
-IsDone was_asked Tree = Unit {0}
-IsDone was_asked (Set bridge port up) = was_asked (Set bridge port up)
+-- the board was asked for each change that the request makes
+abbrev pub IsDone : Plan → (Request → Type 0) → Request → Type 0
+IsDone plan was_asked request = All was_asked (changes plan request)
 
 -- the lines before `ok` of the reply to a request
 abbrev pub IsTold : Plan → (told_port told_bridge : ℕ → ℕ × ℕ → Type 0) → (told_views : ℕ → List (Option PortView) → Type 0) → Request → List ℕ → Type 0
@@ -24,12 +22,13 @@ IsTold plan told_port told_bridge told_views Stop text = text ≡ []
 IsTold plan told_port told_bridge told_views Counts text = IsCountsText plan told_port told_bridge text
 IsTold plan told_port told_bridge told_views Tree text = IsTreeText plan told_views text
 IsTold plan told_port told_bridge told_views (Set bridge port up) text = text ≡ []
+IsTold plan told_port told_bridge told_views (SetPart part up) text = text ≡ []
 
 -- the effect and the reply, by what was read of the line
 abbrev pub Becomes : Plan → (Request → Type 0) → (told_port told_bridge : ℕ → ℕ × ℕ → Type 0)
     → (told_views : ℕ → List (Option PortView) → Type 0) → Result Request Refused → List ℕ → Type 0
 Becomes plan was_asked told_port told_bridge told_views (Ok request) text =
-    IsDone was_asked request × (told : List ℕ) × IsTold plan told_port told_bridge told_views request told × (text ≡ told ++ ok_line)
+    IsDone plan was_asked request × (told : List ℕ) × IsTold plan told_port told_bridge told_views request told × (text ≡ told ++ ok_line)
 Becomes plan was_asked told_port told_bridge told_views (Err NoSuch) text = text ≡ no_such_line
 Becomes plan was_asked told_port told_bridge told_views (Err Bad) text = text ≡ bad_line
 

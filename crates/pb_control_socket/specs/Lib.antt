@@ -1,4 +1,5 @@
 pub mod Sizes
+pub mod Parts
 pub mod Requests
 pub mod Texts
 pub mod Answers

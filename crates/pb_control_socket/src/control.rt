@@ -1,7 +1,8 @@
 //! The control socket.
 
+ghost use Rattle.std.specs.List.{All};
 ghost use Rattle.std.specs.Prelude.{◌≡◌, true, IfOk};
-ghost use Rattle.pb_control_socket.specs.Requests.{is_there};
+ghost use Rattle.pb_control_socket.specs.Requests.{is_there, changes};
 ghost use Rattle.pb_control_socket.specs.Sizes.{IsFew};
 ghost use Rattle.pb_control_socket.specs.Sockets.{path_of};
 ghost use Rattle.pb_control_socket.specs.declared.request.Request.{Request};
@@ -72,7 +73,8 @@ impl Control {
     /// Takes one step: with the peer if there is one, else accepts the next.
     fn step<B: Board>(&mut self, plan: &Plan, board: &B) -> Progress
         requires few { IsFew plan.now }
-        requires allowed { (request : Request) → is_there plan.now request ≡ true → B.allows board.now request }
+        requires allowed { (request : Request) → is_there plan.now request ≡ true
+            → All (B.allows board.now) (changes plan.now request) }
         ensures { path_of self.new ≡ path_of self.old }
     {
         match &mut self.peer {
@@ -86,7 +88,8 @@ impl Control {
     /// that disconnects, or for which an allocation failed, is dropped, and the next may connect.
     pub fn turn<B: Board>(&mut self, plan: &Plan, board: &B) -> bool
         requires few { IsFew plan.now }
-        requires allowed { (request : Request) → is_there plan.now request ≡ true → B.allows board.now request }
+        requires allowed { (request : Request) → is_there plan.now request ≡ true
+            → All (B.allows board.now) (changes plan.now request) }
         ensures { path_of self.new ≡ path_of self.old }
     {
         let mut has_moved = false;

@@ -1,8 +1,9 @@
 //! A peer that is connected to the socket.
 
+ghost use Rattle.std.specs.List.{All};
 ghost use Rattle.std.specs.Prelude.{◌≡◌, ◌≤◌, ◌<◌, ℕ, true, string_len};
 ghost use Rattle.pb_control_socket.specs.Sizes.{IsFew};
-ghost use Rattle.pb_control_socket.specs.Requests.{is_there};
+ghost use Rattle.pb_control_socket.specs.Requests.{is_there, changes};
 ghost use Rattle.pb_control_socket.specs.declared.request.Request.{Request};
 
 use crate::board::Board;
@@ -89,7 +90,8 @@ impl<S: Read + Write> Peer<S> {
     /// Performs a line, and makes its reply.
     fn answer<B: Board>(&mut self, alloc: Global, plan: &Plan, board: &B, line: &[u8]) -> Progress
         requires few { IsFew plan.now }
-        requires allowed { (request : Request) → is_there plan.now request ≡ true → B.allows board.now request }
+        requires allowed { (request : Request) → is_there plan.now request ≡ true
+            → All (B.allows board.now) (changes plan.now request) }
     {
         self.sent = 0;
         self.answer.clear();
@@ -102,7 +104,8 @@ impl<S: Read + Write> Peer<S> {
     /// Takes one step: writes the reply if some of it remains, else performs the next line if there is one, else reads.
     pub(crate) fn step<B: Board>(&mut self, alloc: Global, plan: &Plan, board: &B) -> Progress
         requires few { IsFew plan.now }
-        requires allowed { (request : Request) → is_there plan.now request ≡ true → B.allows board.now request }
+        requires allowed { (request : Request) → is_there plan.now request ≡ true
+            → All (B.allows board.now) (changes plan.now request) }
     {
         if self.sent < self.answer.len() {
             return self.write_on();

@@ -1,12 +1,17 @@
 //! Reads the request of a line.
 
-ghost use Rattle.std.specs.Prelude.{◌≡◌, ◌≢◌, ℕ, Bool, IfSome, IfNone, codes};
+ghost use Rattle.std.specs.Prelude.{◌≡◌, ◌≢◌, ◌⊎◌, ◌==◌, ◌<◌, ℕ, Bool, false, Some, None, IfSome, IfNone, length};
+ghost use Rattle.std.specs.Prelude.{codes};
+ghost use Rattle.std.specs.List.{position};
 ghost use Rattle.pb_control_socket.specs.Sizes.{IsFew};
+ghost use Rattle.pb_lan.specs.Names.{is_name};
 ghost use Rattle.pb_lan.specs.declared.plan.Plan.{Plan};
 ghost use Rattle.pb_step_script.specs.Lines.{IsBridgePort};
-ghost use Rattle.pb_control_socket.specs.Requests.{way_word, AsksToSet, Reads};
+ghost use Rattle.pb_control_socket.specs.Requests.{way_word, colon_cut, IsColonPort, AsksFor, AsksToSet, Reads};
+ghost use Rattle.pb_control_socket.specs.Requests.{is_there};
+ghost use Rattle.pb_control_socket.specs.declared.request.Request.{Request};
 
-use crate::places::{bridge_named, leads_on};
+use crate::places::{bridge_named, is_part, leads_on, part_named};
 use crate::request::{Refused, Request};
 use pb_lan::{Plan, is_name};
 use pb_messages::{cut, local_port, read_port};
@@ -26,6 +31,55 @@ fn read_bridge_port(plan: &Plan, words: &[u8]) -> Option<(u8, u8)>
     Some((bridge_named(plan, name), local_port(number)))
 }
 
+/// Returns the index of the first colon.
+fn colon_in(text: &[u8]) -> Option<usize>
+    ensures place { result ≡ position (λ c. c == 58) text.now }
+    ensures some { IfSome result (λ i. i < length text.now) }
+{
+    text.iter().position(|c| *c == b':')
+}
+
+/// Splits a text at its first colon, which is in neither part. Returns `None` if there is no colon.
+fn cut_at_colon(text: &[u8]) -> Option<(&[u8], &[u8])>
+    ensures some { IfSome result (λ parts. colon_cut text.now ≡ Some (parts.0.now, parts.1.now)) }
+    ensures none { IfNone result (colon_cut text.now ≡ None) }
+{
+    match colon_in(text) {
+        Some(i) => Some((&text[..i], &text[i + 1..])),
+        None => None,
+    }
+}
+
+/// Returns the bridge and its local port from the argument `BRIDGE:PORT`. Each is 0 if the plan or the bridge lacks it.
+/// `None` if the argument does not read so.
+fn read_colon_port(plan: &Plan, word: &[u8]) -> Option<(u8, u8)>
+    requires { IsFew plan.now }
+    ensures some { IfSome result (λ at. IsColonPort plan.now word.now at.0 at.1) }
+    ensures none { IfNone result ((bridge port : ℕ) → IsColonPort plan.now word.now bridge port → ⊥) }
+{
+    let (name, digits) = cut_at_colon(word)?;
+    if !is_name(name) {
+        return None;
+    }
+    let number = read_port(digits)?;
+    Some((bridge_named(plan, name), local_port(number)))
+}
+
+/// Returns the bridge and its local port from the arguments `BRIDGE PORT` or `BRIDGE:PORT`. Each is 0 if the plan or
+/// the bridge lacks it. `None` if the arguments do not read so.
+fn read_port_at(plan: &Plan, words: &[u8]) -> Option<(u8, u8)>
+    requires { IsFew plan.now }
+    ensures some { IfSome result (λ at.
+        IsBridgePort plan.now words.now at.0 at.1 ⊎ IsColonPort plan.now words.now at.0 at.1) }
+    ensures none { IfNone result ((bridge port : ℕ)
+        → IsBridgePort plan.now words.now bridge port ⊎ IsColonPort plan.now words.now bridge port → ⊥) }
+{
+    match read_bridge_port(plan, words) {
+        Some(at) => Some(at),
+        None => read_colon_port(plan, words),
+    }
+}
+
 /// Returns whether a port is to be enabled, from the argument `up` or `down`.
 fn read_way(word: &[u8]) -> Option<bool>
     ensures some { IfSome result (λ up. word.now ≡ way_word up) }
@@ -38,24 +92,40 @@ fn read_way(word: &[u8]) -> Option<bool>
     }
 }
 
-/// The setting of a port: its bridge, its number, and whether it is to be enabled.
-#[derive(Clone, Copy)]
-struct Setting {
-    bridge: u8,
-    port: u8,
-    up: bool,
+/// Returns the request to set the part that a name means. `None` if the text is no name.
+fn read_part(plan: &Plan, name: &[u8], up: bool) -> Option<Request>
+    requires { IsFew plan.now }
+    ensures some { IfSome result (λ request. AsksFor plan.now name.now up request) }
+    ensures none { IfNone result (is_name name.now ≡ false) }
+{
+    if !is_name(name) {
+        return None;
+    }
+    let part = part_named(plan, name);
+    Some(Request::SetPart { part, up })
 }
 
-/// Returns the setting that a line requests.
-fn read_setting(plan: &Plan, line: &[u8]) -> Option<Setting>
+/// Returns the request that the arguments after `up` or `down` ask for.
+fn read_change(plan: &Plan, words: &[u8], up: bool) -> Option<Request>
     requires { IsFew plan.now }
-    ensures some { IfSome result (λ s. AsksToSet plan.now line.now s.bridge s.port s.up) }
-    ensures none { IfNone result ((bridge port : ℕ) (up : Bool) → AsksToSet plan.now line.now bridge port up → ⊥) }
+    ensures some { IfSome result (λ request. AsksFor plan.now words.now up request) }
+    ensures none { IfNone result ((request : Request) → AsksFor plan.now words.now up request → ⊥) }
+{
+    match read_port_at(plan, words) {
+        Some((bridge, port)) => Some(Request::Set { bridge, port, up }),
+        None => read_part(plan, words, up),
+    }
+}
+
+/// Returns the request of a line that begins with `up` or `down`.
+fn read_setting(plan: &Plan, line: &[u8]) -> Option<Request>
+    requires { IsFew plan.now }
+    ensures some { IfSome result (λ request. AsksToSet plan.now line.now request) }
+    ensures none { IfNone result ((request : Request) → AsksToSet plan.now line.now request → ⊥) }
 {
     let (word, words) = cut(line)?;
     let up = read_way(word)?;
-    let (bridge, port) = read_bridge_port(plan, words)?;
-    Some(Setting { bridge, port, up })
+    read_change(plan, words, up)
 }
 
 /// Returns the request that is a single argument: `stop`, `counts` or `tree`.
@@ -71,35 +141,50 @@ fn read_word(line: &[u8]) -> Option<Request>
     }
 }
 
-/// Returns the request to set a port.
+/// Checks whether the port or the part of a request exists.
+fn is_there(plan: &Plan, request: Request) -> bool
+    ensures { result ≡ is_there plan.now request }
+{
+    match request {
+        Request::Stop | Request::Counts | Request::Tree => true,
+        Request::Set { bridge, port, .. } => leads_on(plan, bridge, port),
+        Request::SetPart { part, .. } => is_part(part),
+    }
+}
+
+/// Returns the request of a line that is no single argument.
 ///
 /// # Errors
 ///
-/// `NoSuch` if the plan has no such bridge, or its port leads to no other bridge. `Bad` if the line does not read so.
+/// `NoSuch` if the plan lacks the port or the part that the line names. `Bad` if the line does not read so.
 fn read_set(plan: &Plan, line: &[u8]) -> Result<Request, Refused>
     requires { IsFew plan.now }
     ensures read { result ≢ Err Refused.Bad → Reads plan.now line.now result }
-    ensures bad { result ≡ Err Refused.Bad → (bridge port : ℕ) (up : Bool) → AsksToSet plan.now line.now bridge port up
-        → ⊥ }
+    ensures bad { result ≡ Err Refused.Bad → (request : Request) → AsksToSet plan.now line.now request → ⊥ }
 {
-    let Some(Setting { bridge, port, up }) = read_setting(plan, line) else {
+    let Some(request) = read_setting(plan, line) else {
         return Err(Refused::Bad);
     };
-    if leads_on(plan, bridge, port) {
-        Ok(Request::Set { bridge, port, up })
+    if is_there(plan, request) {
+        Ok(request)
     } else {
         Err(Refused::NoSuch)
     }
 }
 
-/// Reads the request of a line: one of `stop`, `counts`, `tree`, `up BRIDGE PORT` and `down BRIDGE PORT`, without its
-/// LF. BRIDGE is the name of a bridge, PORT is one to three digits, the first not 0, and one space is between two
-/// arguments. No such line has more than 41 octets: of a longer one only the first 42 matter.
+/// Reads the request of a line: one of `stop`, `counts`, `tree`, `up NAME` and `down NAME`, without its LF. One space
+/// is between two arguments.
+///
+/// NAME is the name of a link, for both of its ends; or of a bridge, for both ends of each of its links, which may be
+/// none; or a port to another bridge as `BRIDGE:PORT` or `BRIDGE PORT`, for that end alone. A name has 1 to 32 letters,
+/// digits, hyphens and underscores. PORT is one to three digits, the first not 0. No such line has more than 41 octets:
+/// of a longer one only the first 42 matter.
 ///
 /// # Errors
 ///
-/// `NoSuch` if a line reads so but the plan has no such bridge, or its port leads to no other bridge. `Bad` if the line
-/// does not read so. A carriage return is part of no argument, and makes the line `Bad`.
+/// `NoSuch` if a line reads so but the plan has no link and no bridge of the name, or has both, or the bridge's port
+/// leads to no other bridge. `Bad` if the line does not read so. A carriage return is part of no argument, and makes
+/// the line `Bad`.
 pub fn read_request(plan: &Plan, line: &[u8]) -> Result<Request, Refused>
     requires { IsFew plan.now }
     ensures { Reads plan.now line.now result }

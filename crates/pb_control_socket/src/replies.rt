@@ -1,14 +1,16 @@
 //! Performs lines and makes their replies.
 
+ghost use Rattle.std.specs.List.{All};
 ghost use Rattle.std.specs.Prelude.{◌≡◌, ◌++◌, List, ℕ, true, string_bytes, OnOk};
 ghost use Rattle.pb_control_socket.specs.Sizes.{IsFew};
 ghost use Rattle.pb_control_socket.specs.Answers.{IsDone, IsTold, HasAnswered};
-ghost use Rattle.pb_control_socket.specs.Requests.{Asks, is_there};
+ghost use Rattle.pb_control_socket.specs.Requests.{Asks, is_there, changes};
 ghost use Rattle.pb_control_socket.specs.Texts.{ok_line, bad_line};
 ghost use Rattle.pb_control_socket.specs.declared.request.Request.{Request};
 
 use crate::board::Board;
 use crate::counts::put_counts;
+use crate::parts::set_part;
 use crate::reading::read_request;
 use crate::request::{Refused, Request};
 use crate::tree::put_tree;
@@ -60,19 +62,20 @@ fn put_told<B: Board>(
     match request {
         Request::Counts => put_counts(alloc, plan, board, out),
         Request::Tree => put_tree(alloc, plan, board, out),
-        Request::Stop | Request::Set { .. } => Ok(()),
+        Request::Stop | Request::Set { .. } | Request::SetPart { .. } => Ok(()),
     }
 }
 
-/// Performs a request at the board, if it changes the run.
-fn perform<B: Board>(board: &B, request: Request)
-    requires { B.allows board.now request }
-    ensures { IsDone (B.was_asked board.now) request }
+/// Makes the changes of a request at the board. A request that changes nothing makes none.
+fn perform<B: Board>(plan: &Plan, board: &B, request: Request)
+    requires { All (B.allows board.now) (changes plan.now request) }
+    ensures { IsDone plan.now (B.was_asked board.now) request }
 {
     match request {
         Request::Stop => board.stop(),
         Request::Counts | Request::Tree => {}
         Request::Set { bridge, port, up } => board.set(bridge, port, up),
+        Request::SetPart { part, up } => set_part(plan, board, part, up),
     }
 }
 
@@ -97,7 +100,7 @@ pub fn answer<B: Board>(
 ) -> Result<(), Memory>
     requires few { IsFew plan.now }
     requires allowed { (request : Request) → Asks plan.now line.now request → is_there plan.now request ≡ true
-        → B.allows board.now request }
+        → All (B.allows board.now) (changes plan.now request) }
     ensures { OnOk result (HasAnswered plan.now (B.was_asked board.now) (B.told_port board.now)
         (B.told_bridge board.now) (B.told_views board.now)
         line.now (string_bytes out.old) (string_bytes out.new)) }
@@ -106,7 +109,7 @@ pub fn answer<B: Board>(
         Ok(request) => {
             put_told(alloc, plan, board, request, out)?;
             put_ok(out)?;
-            perform(board, request);
+            perform(plan, board, request);
             Ok(())
         }
         Err(Refused::NoSuch) => put_no_such(out),

@@ -2,6 +2,15 @@
 
 use thiserror::Error;
 
+/// The part of a plan that a name means: the ends of its links are enabled or disabled together.
+#[derive(Clone, Copy, Debug, PartialEq, Eq)]
+pub enum Part {
+    /// The link of this number, from 1: both of its ends.
+    Link(u8),
+    /// The bridge of this number, from 1: both ends of each of its links.
+    Bridge(u8),
+}
+
 /// The request of a line.
 #[derive(Clone, Copy, Debug, PartialEq, Eq)]
 pub enum Request {
@@ -11,7 +20,8 @@ pub enum Request {
     Counts,
     /// `tree`: the roles and states of the ports between bridges.
     Tree,
-    /// `up BRIDGE PORT` or `down BRIDGE PORT`: enable or disable a port to another bridge.
+    /// `up BRIDGE PORT`, `down BRIDGE PORT`, or the same with `BRIDGE:PORT`: enable or disable a port to another
+    /// bridge.
     Set {
         /// The number of the bridge, from 1.
         bridge: u8,
@@ -20,12 +30,20 @@ pub enum Request {
         /// Whether the port is to be enabled.
         up: bool,
     },
+    /// `up NAME` or `down NAME`: enable or disable the ends of a link, or of all links of a bridge.
+    SetPart {
+        /// The part that the name means.
+        part: Part,
+        /// Whether the ends are to be enabled.
+        up: bool,
+    },
 }
 
 /// The reason why nothing is done for a line.
 #[derive(Clone, Copy, Debug, PartialEq, Eq, Error)]
 pub enum Refused {
-    /// The plan has no such bridge, or the bridge has no port of that number that leads to another bridge.
+    /// The plan has no such bridge, or the bridge has no port of that number that leads to another bridge. Or the name
+    /// is that of no link and no bridge, or of both.
     #[error("no such")]
     NoSuch,
     /// The line is no request.

@@ -6,6 +6,7 @@ mod client;
 mod files;
 mod folder;
 mod lines;
+mod parts;
 mod peers;
 mod plans;
 mod stage;

@@ -65,6 +65,7 @@ pub struct Steering<'a, G> {
     /// 1 once frames may enter.
     open: AtomicU64,
     ghost few_bridges: { length plan.now.bridges ≤ 32 },
+    ghost few_links: { length plan.now.links ≤ 64 },
     ghost few_customers: { length plan.now.customers ≤ 128 },
 }
 

@@ -4,7 +4,7 @@ ghost use Rattle.pb_lan.specs.Plans.{IsSound};
 
 use super::board::Fake;
 use super::plans::{COUNTS, TREE, plan};
-use pb_control_socket::{Refused, Request, answer, read_request};
+use pb_control_socket::{Part, Refused, Request, answer, read_request};
 use pb_frame::Memory;
 use pb_lan::Plan;
 use std::alloc::Global;
@@ -42,6 +42,36 @@ const ASKING: &[Row] = &[
             up: true,
         }),
     ),
+    (
+        "down west:2",
+        Ok(Request::Set {
+            bridge: 1,
+            port: 2,
+            up: false,
+        }),
+    ),
+    (
+        "up east:16",
+        Ok(Request::Set {
+            bridge: 2,
+            port: 16,
+            up: true,
+        }),
+    ),
+    (
+        "down L1",
+        Ok(Request::SetPart {
+            part: Part::Link(1),
+            up: false,
+        }),
+    ),
+    (
+        "up west",
+        Ok(Request::SetPart {
+            part: Part::Bridge(1),
+            up: true,
+        }),
+    ),
     ("down north 2", NO_SUCH),
     ("down West 2", NO_SUCH),
     ("down L1 2", NO_SUCH),
@@ -54,6 +84,20 @@ const ASKING: &[Row] = &[
     ("up west 258", NO_SUCH),
     ("up west 999", NO_SUCH),
     ("up abcdefghijklmnopqrstuvwxyz-_0189 2", NO_SUCH),
+    ("down north:2", NO_SUCH),
+    ("down L1:2", NO_SUCH),
+    ("down west:1", NO_SUCH),
+    ("up west:16", NO_SUCH),
+    ("up east:17", NO_SUCH),
+    ("up west:999", NO_SUCH),
+    ("up abcdefghijklmnopqrstuvwxyz-_0189:2", NO_SUCH),
+    ("down north", NO_SUCH),
+    ("down West", NO_SUCH),
+    ("down l1", NO_SUCH),
+    ("down shop", NO_SUCH),
+    ("up red", NO_SUCH),
+    ("up 2", NO_SUCH),
+    ("up abcdefghijklmnopqrstuvwxyz-_0189", NO_SUCH),
 ];
 
 /// Lines without a request.
@@ -74,8 +118,27 @@ const WRONG: &[&str] = &[
     "Tree",
     "down",
     "down ",
-    "down west",
     "down west ",
+    "down  west",
+    "down west\r",
+    "down L1 west",
+    "down w.st",
+    "down we\u{df}t",
+    "down abcdefghijklmnopqrstuvwxyz-_01897",
+    "down :",
+    "down :2",
+    "down west:",
+    "down west: 2",
+    "down west :2",
+    "down west:0",
+    "down west:02",
+    "down west:2 ",
+    "down west:2\r",
+    "down west:2:",
+    "down west:2 3",
+    "down west:1000",
+    "down w.st:2",
+    "down abcdefghijklmnopqrstuvwxyz-_01897:2",
     "down west 0",
     "down west 02",
     "down west +2",
@@ -106,10 +169,27 @@ fn reply(read: Result<Request, Refused>) -> &'static str {
     }
 }
 
-/// Checks whether exactly this request was made of the board.
+/// The changes of the board by which both ends of the link are enabled or disabled.
+fn ends(up: bool) -> [Request; 2] {
+    [
+        Request::Set {
+            bridge: 1,
+            port: 2,
+            up,
+        },
+        Request::Set {
+            bridge: 2,
+            port: 16,
+            up,
+        },
+    ]
+}
+
+/// Checks whether exactly the changes of this request were made at the board.
 fn has_done(board: &Fake, read: Result<Request, Refused>) -> bool {
     match read {
         Ok(Request::Counts | Request::Tree) | Err(_) => board.has_done(&[]),
+        Ok(Request::SetPart { up, .. }) => board.has_done(&ends(up)),
         Ok(request) => board.has_done(&[request]),
     }
 }

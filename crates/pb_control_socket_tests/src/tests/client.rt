@@ -37,6 +37,8 @@ const CONVERSATIONS: &[Row] = &[
     ("stop\n", 0),
     ("stop", 0),
     ("counts\ntree\nup west 2\n", 0),
+    ("down L1\nup west\nup east:16\n", 0),
+    ("down shop\nstop\n", 4),
     ("down west 1\n", 4),
     ("dwon west 2\nstop\n", 4),
     ("down west 2\n\nstop\n", 4),
@@ -197,6 +199,7 @@ fn arguments_give_a_line_for_each_command(rt: HostRuntime) -> Result<(), Fail> {
         (&["stop"], "stop\n"),
         (&["down", "B1", "2"], "down B1 2\n"),
         (&["down", "B1", "2", "--", "stop"], "down B1 2\nstop\n"),
+        (&["down", "L1", "--", "up", "B1:2"], "down L1\nup B1:2\n"),
         (&["counts", "--", "--"], "counts\n\n\n"),
         (&["", "a b"], " a b\n"),
     ];

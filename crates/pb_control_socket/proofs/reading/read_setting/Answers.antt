@@ -1,4 +1,4 @@
-use Rattle.pb_control_socket.proofs.RequestLemmas.{no_way, no_port}
+use Rattle.pb_control_socket.proofs.RequestLemmas.{no_way}
 use Rattle.pb_control_socket.proofs.reading.read_setting.Goals as goal
 
 pub returns-in_err-up-clause-none : goal.returns-in_err-up-clause-none
@@ -6,9 +6,3 @@ returns-in_err-up-clause-none c =
     rw c.from_residual-in_err-up.ensures
     (no_way c.args.plan.now c.args.line.now c.in_ok-word.word.now c.in_ok-word.words.now c.in_ok-word.ensures.some
     c.in_err-up.ensures.none)
-
-pub returns-in_err-bridge-clause-none : goal.returns-in_err-bridge-clause-none
-returns-in_err-bridge-clause-none c =
-    rw c.from_residual-in_err-bridge.ensures
-    (no_port c.args.plan.now c.args.line.now c.in_ok-word.word.now c.in_ok-word.words.now c.in_ok-word.ensures.some
-    c.in_err-bridge.ensures.none)
