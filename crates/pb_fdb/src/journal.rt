@@ -4,7 +4,7 @@ ghost use Rattle.indexmap.specs.IndexMap.{get, keys, values, index_map_len};
 ghost use Rattle.std.specs.List.{filter};
 ghost use Rattle.std.specs.Option.{option_to_list};
 ghost use Rattle.std.specs.Prelude.{◌≡◌, ◌==◌, ◌<◌, ◌≤◌, ◌+◌, ◌^◌, ◌++◌, ◌∷◌, [], List, Some, None, not, length, drop};
-ghost use Rattle.std.specs.Prelude.{slice_get, OnOk, OnErr, OnSome, IfSome, IfNone};
+ghost use Rattle.std.specs.Prelude.{slice_get, IfOk, OnOk, OnErr, OnSome, IfSome, IfNone};
 ghost use Rattle.std.specs.VecDeque.{deque_len, deque_capacity};
 ghost use Rattle.pb_frame.specs.Stations.{is_sighted};
 ghost use Rattle.pb_fdb.specs.Entries.{sighting_of, sightings, without_station};
@@ -348,5 +348,37 @@ impl Journal {
         ensures { result ≡ sightings self.now }
     {
         Entries::of(&self.index, self.log.iter(), self.first)
+    }
+}
+
+/// Returns a copy of an index.
+fn copied_index(index: &Index) -> Result<Index, AllocError>
+    ensures { IfOk result (λ copy. copy.entries ≡ index.now.entries) }
+{
+    index.clone()
+}
+
+/// Returns a copy of a log, with the capacity of the log at least.
+fn copied_log(log: &VecDeque<LogEntry>) -> Result<VecDeque<LogEntry>, AllocError>
+    ensures items { IfOk result (λ copy. copy.items ≡ log.now.items) }
+    ensures room { IfOk result (λ copy. deque_capacity log.now ≤ deque_capacity copy) }
+{
+    let mut copy = log.clone()?;
+    copy.reserve(log.capacity().saturating_sub(copy.len()))?;
+    Ok(copy)
+}
+
+/// The copy is equal.
+impl Clone for Journal {
+    ghost is_clone = { λ journal copy. copy ≡ journal };
+
+    fn clone(&self) -> Result<Journal, AllocError> {
+        let index = copied_index(&self.index)?;
+        let log = copied_log(&self.log)?;
+        Ok(Journal {
+            index,
+            log,
+            first: self.first,
+        })
     }
 }

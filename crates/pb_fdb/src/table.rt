@@ -225,3 +225,17 @@ impl Fdb {
         self.journal.entries()
     }
 }
+
+/// The copy is equal.
+impl Clone for Fdb {
+    ghost is_clone = { λ table copy. copy ≡ table };
+
+    fn clone(&self) -> Result<Fdb, AllocError> {
+        Ok(Fdb {
+            limit: self.limit,
+            ageing: self.ageing,
+            clock: self.clock,
+            journal: self.journal.clone()?,
+        })
+    }
+}

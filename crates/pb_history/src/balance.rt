@@ -130,6 +130,17 @@ impl Balance {
         }
     }
 
+    /// Returns an equal copy. Allocates nothing.
+    pub(crate) fn copied(&self) -> Balance
+        ensures { result ≡ self.now }
+    {
+        Balance {
+            past: self.past.copied(),
+            gained: self.gained,
+            parted: self.parted,
+        }
+    }
+
     /// Records one more step.
     #[inline(always)]
     pub(crate) fn note(&mut self, step: &Step)

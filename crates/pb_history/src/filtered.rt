@@ -68,6 +68,16 @@ impl Filtered {
         }
     }
 
+    /// Returns an equal copy. Allocates nothing.
+    pub(crate) fn copied(&self) -> Filtered
+        ensures { result ≡ self.now }
+    {
+        Filtered {
+            past: self.past.copied(),
+            counts: self.counts,
+        }
+    }
+
     /// Records one more step.
     #[inline(always)]
     pub(crate) fn note(&mut self, step: &Step)

@@ -111,6 +111,18 @@ impl LossCounts {
         }
     }
 
+    /// Returns an equal copy. Allocates nothing.
+    pub(crate) fn copied(&self) -> LossCounts
+        ensures { result ≡ self.now }
+    {
+        LossCounts {
+            past: self.past.copied(),
+            copies: self.copies.copied(),
+            bpdus: self.bpdus.copied(),
+            sources: self.sources.copied(),
+        }
+    }
+
     /// Records one more step.
     #[inline(always)]
     pub(crate) fn note(&mut self, step: &Step)

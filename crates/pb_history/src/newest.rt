@@ -70,6 +70,16 @@ impl Newest {
         }
     }
 
+    /// Returns an equal copy. Allocates nothing.
+    pub(crate) fn copied(&self) -> Newest
+        ensures { result ≡ self.now }
+    {
+        Newest {
+            past: self.past.copied(),
+            states: self.states,
+        }
+    }
+
     /// Records one more step.
     #[inline(always)]
     pub(crate) fn note(&mut self, step: &Step)

@@ -96,6 +96,21 @@ impl Passages {
         }
     }
 
+    /// Returns an equal copy. Allocates nothing.
+    pub(crate) fn copied(&self) -> Passages
+        ensures { result ≡ self.now }
+    {
+        Passages {
+            past: self.past.copied(),
+            steps: self.steps,
+            entered: self.entered,
+            left: self.left,
+            gone: self.gone,
+            taken: self.taken,
+            lost: self.lost,
+        }
+    }
+
     /// Records one more step.
     #[inline(always)]
     pub(crate) fn note(&mut self, step: &Step)

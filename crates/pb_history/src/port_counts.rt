@@ -53,6 +53,16 @@ impl PortCounts {
         }
     }
 
+    /// Returns an equal copy. Allocates nothing.
+    pub(crate) fn copied(&self) -> PortCounts
+        ensures { result ≡ self.now }
+    {
+        PortCounts {
+            noted: self.noted.copied(),
+            counts: self.counts,
+        }
+    }
+
     /// Records a loss at a port.
     fn note(&mut self, port: u8, cause: NoRoom)
         requires { length self.old < u128.MAX }

@@ -37,6 +37,16 @@ impl SourceCounts {
         }
     }
 
+    /// Returns an equal copy. Allocates nothing.
+    pub(crate) fn copied(&self) -> SourceCounts
+        ensures { result ≡ self.now }
+    {
+        SourceCounts {
+            noted: self.noted.copied(),
+            counts: self.counts,
+        }
+    }
+
     /// Records a source that was not learnt.
     pub(crate) fn note(&mut self, cause: NoRoom)
         requires { length self.old < u128.MAX }

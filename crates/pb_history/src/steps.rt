@@ -1,12 +1,12 @@
 //! The list of steps of a place.
 
-ghost use Rattle.std.specs.Prelude.{◌≡◌, ◌<◌, ◌&&◌, [], true, false, length, OnOk, OnErr, IsOk};
+ghost use Rattle.std.specs.Prelude.{◌≡◌, ◌<◌, ◌&&◌, [], true, false, length, vec_capacity, IfOk, OnOk, OnErr, IsOk};
 ghost use Rattle.pb_history.specs.StepLists.{with_step, given_back};
 
 use crate::tally::Tally;
 use pb_frame::Memory;
 use pb_lan::Step;
-use std::alloc::Global;
+use std::alloc::{AllocError, Global};
 use std::marker::Model;
 
 /// The steps that a place has taken, in order, with their tally. Either each step is kept in memory, or the steps are
@@ -172,5 +172,32 @@ impl Steps {
             is_reserved: _,
         } = self;
         (tally, kept)
+    }
+}
+
+/// Returns a copy of kept steps, with space for one more if `has_room` is set.
+fn copied_list(kept: &Vec<Step>, has_room: bool) -> Result<Vec<Step>, AllocError>
+    ensures items { IfOk result (λ copy. copy.items ≡ kept.now.items) }
+    ensures room { IfOk result (λ copy. has_room ≡ true → length copy.items < vec_capacity copy) }
+{
+    let mut copy = kept.clone()?;
+    if has_room {
+        copy.reserve(1)?;
+    }
+    Ok(copy)
+}
+
+/// The copy is equal, and space for one more step is reserved if it is in the source.
+impl Clone for Steps {
+    ghost is_clone = { λ steps copy. copy ≡ steps };
+
+    fn clone(&self) -> Result<Steps, AllocError> {
+        let kept = copied_list(&self.kept, self.is_reserved && self.is_kept)?;
+        Ok(Steps {
+            tally: self.tally.copied(),
+            kept,
+            is_kept: self.is_kept,
+            is_reserved: self.is_reserved,
+        })
     }
 }

@@ -15,6 +15,7 @@ use crate::loss_counts::LossCounts;
 use crate::newest::Newest;
 use crate::passages::Passages;
 use pb_lan::{PortState, Step};
+use std::alloc::AllocError;
 use std::marker::Model;
 
 /// The counts of the steps of a place. It has less than 1,400 octets for any number of steps, and keeps no step.
@@ -64,6 +65,19 @@ impl Tally {
             tally.note(step);
         }
         tally
+    }
+
+    /// Returns a copy. Allocates nothing.
+    pub fn copied(&self) -> Tally
+        ensures { result ≡ self.now }
+    {
+        Tally {
+            passages: self.passages.copied(),
+            filtered: self.filtered.copied(),
+            newest: self.newest.copied(),
+            balance: self.balance.copied(),
+            losses: self.losses.copied(),
+        }
     }
 
     /// Records one more step. Allocates nothing.
@@ -178,5 +192,14 @@ impl Tally {
         ensures { result ≡ counts_of (flat_map unlearnt_by self.now) }
     {
         self.losses.sources()
+    }
+}
+
+/// The copy is equal.
+impl Clone for Tally {
+    ghost is_clone = { λ tally copy. copy ≡ tally };
+
+    fn clone(&self) -> Result<Tally, AllocError> {
+        Ok(self.copied())
     }
 }

@@ -16,8 +16,10 @@ impl<T> Model for Past<T> {
     ghost also_owns = { λ _. ftrue };
 }
 
-// It owns no value of type T.
+// It owns no value of type T, and a reference to it reaches none.
 unsafe impl<T> Send for Past<T> {}
+
+unsafe impl<T> Sync for Past<T> {}
 
 impl<T> Past<T> {
     /// Returns an empty list. Allocates nothing.
@@ -31,6 +33,13 @@ impl<T> Past<T> {
     #[inline(always)]
     fn with(&self, entry: &T) -> Past<T>
         ensures { result.items ≡ self.now.items ++ entry.now ∷ [] }
+    {
+        Past { of: PhantomData }
+    }
+
+    /// Returns an equal list. Allocates nothing.
+    pub fn copied(&self) -> Past<T>
+        ensures { result.items ≡ self.now.items }
     {
         Past { of: PhantomData }
     }

@@ -1,5 +1,6 @@
 //! Runs with ample memory.
 
+mod copies;
 mod counts;
 mod draft;
 mod frame_number;

@@ -12,7 +12,7 @@ use bytes::Bytes;
 use pb_frame::Memory;
 use pb_history::Steps;
 use pb_lan::{FrameNumber, Item, Mark, Step};
-use std::alloc::Global;
+use std::alloc::{AllocError, Global};
 use std::marker::Model;
 
 /// A customer port of a plan (IEEE 802.1Q clause 15.3). It polls frames, feeds them to its bridge one after the other,
@@ -225,5 +225,20 @@ impl CustomerPlace {
             Some(Step::Feed { item }) => item,
             _ => unreachable!(),
         }
+    }
+}
+
+/// The copy is equal.
+impl Clone for CustomerPlace {
+    ghost is_clone = { λ port copy. copy ≡ port };
+
+    fn clone(&self) -> Result<CustomerPlace, AllocError> {
+        let steps = self.steps.clone()?;
+        Ok(CustomerPlace {
+            number: self.number,
+            steps,
+            hand: self.hand.clone()?,
+            polls: self.polls,
+        })
     }
 }

@@ -5,6 +5,7 @@ ghost use Rattle.std.specs.Prelude.{◌≡◌};
 ghost use Rattle.pb_link.specs.Holdings.{brought_by, held, holding_of, is_nothing};
 
 use pb_lan::{Item, Step};
+use std::alloc::AllocError;
 use std::mem::replace;
 
 /// The item that came to a place and has not gone on.
@@ -74,5 +75,18 @@ impl Holding {
             Holding::This(item) => item,
             _ => unreachable!(),
         }
+    }
+}
+
+/// The copy is equal.
+impl Clone for Holding {
+    ghost is_clone = { λ holding copy. copy ≡ holding };
+
+    fn clone(&self) -> Result<Holding, AllocError> {
+        Ok(match self {
+            Holding::Nothing => Holding::Nothing,
+            Holding::At(place) => Holding::At(*place),
+            Holding::This(item) => Holding::This(item.clone()?),
+        })
     }
 }

@@ -16,7 +16,7 @@ use pb_frame::{Memory, Seq};
 use pb_history::{Steps, Tally};
 use pb_lan::{Item, Step};
 use rtrb::{Consumer, Producer};
-use std::alloc::Global;
+use std::alloc::{AllocError, Global};
 use std::marker::Model;
 
 /// A lane of a plan: one direction of a link, which is a point-to-point LAN between two bridges (IEEE 802.1D-2004
@@ -281,5 +281,20 @@ impl Lane {
             Some(Step::Put { item }) => item,
             _ => unreachable!(),
         }
+    }
+}
+
+/// The copy is equal.
+impl Clone for Lane {
+    ghost is_clone = { λ lane copy. copy ≡ lane };
+
+    fn clone(&self) -> Result<Lane, AllocError> {
+        let losses = self.losses.clone()?;
+        let steps = self.steps.clone()?;
+        Ok(Lane {
+            losses,
+            steps,
+            hand: self.hand.clone()?,
+        })
     }
 }

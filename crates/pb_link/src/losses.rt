@@ -6,6 +6,7 @@ ghost use Rattle.pb_frame.specs.Lists.{Rises};
 ghost use Rattle.pb_link.specs.Losses.{is_first};
 
 use pb_frame::Seq;
+use std::alloc::AllocError;
 use std::marker::Model;
 
 /// The numbers of the items that a lane loses, and the count of items that it took. The numbers rise, and the index of
@@ -76,4 +77,17 @@ fn after_item(next: usize, is_lost: bool) -> usize
     ensures { result ≡ (if is_lost then next + 1 else next) }
 {
     if is_lost { next + 1 } else { next }
+}
+
+/// The copy is equal.
+impl Clone for Losses {
+    ghost is_clone = { λ losses copy. copy ≡ losses };
+
+    fn clone(&self) -> Result<Losses, AllocError> {
+        Ok(Losses {
+            numbers: self.numbers.clone()?,
+            next: self.next,
+            taken: self.taken,
+        })
+    }
 }

@@ -13,4 +13,5 @@ pub mod DueLemmas
 pub mod Done
 pub mod Records
 pub mod StartLemmas
+pub mod CopyLemmas
 mod SettledLemmas

@@ -5,6 +5,7 @@
 mod at_bridge;
 mod at_lane;
 mod at_port;
+mod copying;
 mod did;
 mod due;
 mod events;

@@ -1,12 +1,14 @@
 //! The lists of a network's record, allocated before its first step.
 
 ghost use Rattle.std.specs.List.{AllByRecursion};
-ghost use Rattle.std.specs.Prelude.{◌≡◌, ◌≤◌, [], true, map, length, vec_capacity};
+ghost use Rattle.std.specs.Prelude.{◌≡◌, ◌≤◌, [], true, map, length, vec_capacity, IfOk};
+ghost use Rattle.pb_net.specs.Lists.{AreEmpty};
 
 use pb_frame::Seq;
 use pb_lan::Step;
 use pb_link::{CustomerPlace, Lane};
 use pb_relay::Bridge;
+use std::alloc::{AllocError, Global};
 
 /// Empty lists with capacity for each place. They let `Net::finish` gather the record without an allocation.
 #[derive(Drop)]
@@ -17,6 +19,24 @@ pub(crate) struct Lists {
     pub lanes: Vec<Seq<Step>>,
     /// The list for each customer port.
     pub customers: Vec<Seq<Step>>,
+}
+
+impl Lists {
+    /// Allocates empty lists for these numbers of bridges, lanes and customer ports.
+    pub(crate) fn empty(
+        alloc: Global,
+        bridges: usize,
+        lanes: usize,
+        customers: usize,
+    ) -> Result<Lists, AllocError>
+        ensures { IfOk result (AreEmpty bridges lanes customers) }
+    {
+        Ok(Lists {
+            bridges: Vec::with_capacity(alloc, bridges)?,
+            lanes: Vec::with_capacity(alloc, lanes)?,
+            customers: Vec::with_capacity(alloc, customers)?,
+        })
+    }
 }
 
 /// Moves the steps of each bridge into `lists`, and returns these.

@@ -1,5 +1,9 @@
 //! The slots of the bridges' ports, and the neighbour at each.
 
+ghost use Rattle.std.specs.Prelude.{◌≡◌};
+
+use std::alloc::AllocError;
+
 /// The neighbour at a local port of a bridge.
 #[derive(Clone, Copy, Debug)]
 pub(crate) enum PortUse {
@@ -39,4 +43,20 @@ pub(crate) struct Spot {
     pub place: usize,
     /// The slot.
     pub slot: usize,
+}
+
+/// The tables of the copy are equal.
+impl Clone for Slots {
+    ghost is_clone = { λ slots copy. (copy.uses.items ≡ slots.uses.items) × (copy.lanes.items ≡ slots.lanes.items)
+        × (copy.customers.items ≡ slots.customers.items) };
+
+    fn clone(&self) -> Result<Slots, AllocError> {
+        let uses = self.uses.clone()?;
+        let lanes = self.lanes.clone()?;
+        Ok(Slots {
+            uses,
+            lanes,
+            customers: self.customers.clone()?,
+        })
+    }
 }

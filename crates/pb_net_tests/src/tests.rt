@@ -3,6 +3,7 @@
 mod asked;
 mod bench;
 mod classes;
+mod copies;
 mod crossing;
 mod draft;
 mod draining;

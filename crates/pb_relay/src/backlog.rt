@@ -11,6 +11,8 @@ ghost use Rattle.pb_relay.specs.Departures.{departure};
 ghost use Rattle.pb_relay.specs.Backlogs.{at_place, with_port, is_full_at, older_in, HasEnqueued, empty_backlog};
 ghost use Rattle.pb_relay.specs.Backlogs.{word_for};
 
+mod copying;
+
 use crate::departure::Departure;
 use crate::queues::PortQueues;
 use bytes::Bytes;

@@ -15,7 +15,7 @@ use crate::roles::root_vector;
 use crate::vector::Vector;
 use pb_frame::Memory;
 use pb_lan::PortState;
-use std::alloc::Global;
+use std::alloc::{AllocError, Global};
 use std::marker::Model;
 
 /// The rapid spanning tree protocol at one bridge (IEEE 802.1D-2004 clause 17, in a profile).
@@ -190,5 +190,35 @@ impl Rstp {
         let port = port_of(&self.ports, port)?;
         let info = port.info?;
         Some(port.stored_vector(&info))
+    }
+}
+
+/// Returns copies of the roles and of the states of ports.
+fn copied_told(
+    roles: &Vec<(u8, Role)>,
+    states: &Vec<(u8, PortState)>,
+) -> Result<(Vec<(u8, Role)>, Vec<(u8, PortState)>), AllocError>
+    ensures roles { IfOk result (λ copies. copies.0.items ≡ roles.now.items) }
+    ensures states { IfOk result (λ copies. copies.1.items ≡ states.now.items) }
+{
+    let copy = roles.clone()?;
+    Ok((copy, states.clone()?))
+}
+
+/// The copy is equal.
+impl Clone for Rstp {
+    ghost is_clone = { λ rstp copy. copy ≡ rstp };
+
+    fn clone(&self) -> Result<Rstp, AllocError> {
+        let (roles, states) = copied_told(&self.roles, &self.states)?;
+        Ok(Rstp {
+            alloc: self.alloc,
+            id: self.id,
+            prompt: self.prompt,
+            ports: self.ports.clone()?,
+            hello_when: self.hello_when,
+            roles,
+            states,
+        })
     }
 }

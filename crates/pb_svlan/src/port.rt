@@ -1,9 +1,10 @@
 //! Ports as members of services.
 
-ghost use Rattle.std.specs.Prelude.{◌≤◌};
+ghost use Rattle.std.specs.Prelude.{◌≡◌, ◌≤◌};
 
 use crate::vid::Vid;
 use pb_frame::Seq;
+use std::alloc::AllocError;
 
 /// The service of a customer port, and the priority of frames that arrive there without a priority tag.
 #[derive(Clone, Copy, Debug, PartialEq, Eq)]
@@ -32,4 +33,28 @@ pub struct Attachment {
     pub port: u8,
     /// The role of the port.
     pub kind: PortKind,
+}
+
+/// The copy is equal.
+impl Clone for PortKind {
+    ghost is_clone = { λ kind copy. copy ≡ kind };
+
+    fn clone(&self) -> Result<PortKind, AllocError> {
+        Ok(match self {
+            PortKind::Customer(join) => PortKind::Customer(*join),
+            PortKind::Trunk(vids) => PortKind::Trunk(vids.clone()?),
+        })
+    }
+}
+
+/// The copy is equal.
+impl Clone for Attachment {
+    ghost is_clone = { λ attachment copy. copy ≡ attachment };
+
+    fn clone(&self) -> Result<Attachment, AllocError> {
+        Ok(Attachment {
+            port: self.port,
+            kind: self.kind.clone()?,
+        })
+    }
 }

@@ -13,6 +13,8 @@ ghost use Rattle.pb_svlan.specs.ServiceTables.{is_member, is_member_as, kind_at,
 ghost use Rattle.pb_svlan.specs.ServiceTables.{pcp_of, vid_at, place_of};
 ghost use Rattle.pb_svlan.specs.declared.port.PortKind.TheVariants.{Customer, Trunk};
 
+mod copying;
+
 use crate::enter::refusal;
 use crate::entered::Entered;
 use crate::fault::{AddFault, JoinFault};

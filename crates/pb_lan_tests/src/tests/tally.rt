@@ -11,7 +11,7 @@ use std::test::Fail;
 
 /// A step, of which the tests name the counted parts.
 #[derive(Clone, Copy)]
-enum CountedStep {
+pub(super) enum CountedStep {
     Poll,
     Feed,
     Deliver { gone: bool },
@@ -64,7 +64,8 @@ fn received(port: u8, learnt: Option<Learnt>, outcome: Outcome) -> Step {
     }
 }
 
-fn step(alloc: Global, counted: CountedStep) -> Result<Step, AllocError> {
+/// Returns a step.
+pub(super) fn step(alloc: Global, counted: CountedStep) -> Result<Step, AllocError> {
     Ok(match counted {
         CountedStep::Poll => Step::Poll { item: item() },
         CountedStep::Feed => Step::Feed { item: item() },
@@ -88,7 +89,7 @@ fn step(alloc: Global, counted: CountedStep) -> Result<Step, AllocError> {
 }
 
 /// Steps of all kinds. No place takes all of these; a tally counts whatever it is given.
-const DONE: &[CountedStep] = &[
+pub(super) const DONE: &[CountedStep] = &[
     CountedStep::Poll,
     CountedStep::Feed,
     CountedStep::Poll,
@@ -106,7 +107,7 @@ const DONE: &[CountedStep] = &[
 ];
 
 /// Takes these steps.
-fn take(alloc: Global, steps: &mut Steps) -> Result<usize, Fail> {
+pub(super) fn take(alloc: Global, steps: &mut Steps) -> Result<usize, Fail> {
     let mut given = 0usize;
     for counted in DONE {
         steps.reserve()?;

@@ -8,6 +8,7 @@ use both::{Answers, Both, Dice};
 use pb_fdb::Entry;
 use pb_fdb::Learnt::{Full, Group, Kept, Moved, New};
 use pb_frame::Mac;
+use std::test::Fail;
 use timed::{Row, Timed};
 
 const ONE: Mac = Mac([2, 0, 0, 0, 0, 1]);
@@ -80,6 +81,30 @@ fn a_station_seen_anew_goes_last(rt: HostRuntime) {
         Row::Finds(5, TWO, Some(3)),
     ];
     Timed::new(rt.alloc(), 4096, 300).walk(&rt, ROWS);
+}
+
+#[test]
+fn a_copy_of_a_table_goes_on_alone(rt: HostRuntime) -> Result<(), Fail> {
+    const BOTH: &[Row] = &[
+        Row::At(2),
+        Row::Learns(5, ONE, 1, New),
+        Row::At(3),
+        Row::Learns(5, TWO, 3, New),
+        Row::Has(&[FIRST, SECOND]),
+    ];
+    const ONE_FLUSHED: &[Row] = &[
+        Row::Has(&[FIRST, SECOND]),
+        Row::Flushes(1),
+        Row::Learns(5, THREE, 2, New),
+        Row::Finds(5, ONE, None),
+        Row::Finds(5, TWO, Some(3)),
+    ];
+    let mut table = Timed::new(rt.alloc(), 4096, 300);
+    table.walk(&rt, BOTH);
+    let mut copy = table.copied()?;
+    copy.walk(&rt, ONE_FLUSHED);
+    table.walk(&rt, ONE_FLUSHED);
+    Ok(())
 }
 
 #[test]

@@ -21,6 +21,17 @@ fn vids_run_from_1_to_4094(rt: HostRuntime) {
     }
 }
 
+#[test]
+fn a_copy_of_services_goes_on_alone(rt: HostRuntime) -> Result<(), Fail> {
+    let mut services = Services::new(rt.alloc());
+    assert!(rt; adds(rt.alloc(), &mut services, "red", 5, Ok(1)));
+    let mut copy = services.clone()?;
+    assert!(rt; adds(rt.alloc(), &mut copy, "red", 6, Err(AddFault::TakenName)));
+    assert!(rt; adds(rt.alloc(), &mut copy, "blue", 6, Ok(2)));
+    assert_eq!(rt; (services.len(), copy.len()), (1, 2));
+    Ok(())
+}
+
 /// The priority of a frame that enters, and whether a tag is cut; or why it is refused.
 type Entered = Result<(u8, bool), Reason>;
 

@@ -111,6 +111,23 @@ pub(super) fn walks(
     Ok(())
 }
 
+/// Walks a network of the draft through rows, then a copy of it through the rows after these, and then the network.
+pub(super) fn walks_copy(
+    rt: &impl Abort,
+    alloc: Global,
+    draft: &Draft,
+    before: &[Row],
+    after: &[Row],
+) -> Result<(), Fail> {
+    let plan = plan_of(alloc, draft)?;
+    assert!(rt; plan_is_sound(&plan));
+    let mut net = Net::new(alloc, plan)?;
+    all_hold(rt, alloc, &mut net, draft, before)?;
+    let mut copy = net.clone()?;
+    all_hold(rt, alloc, &mut copy, draft, after)?;
+    all_hold(rt, alloc, &mut net, draft, after)
+}
+
 /// The record of a network that went through rows.
 pub(super) struct Recorded {
     /// The numbers of bridges and lanes in it.

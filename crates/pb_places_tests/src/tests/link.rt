@@ -1,5 +1,6 @@
 //! Customer ports and lanes.
 
+mod copies;
 mod counted;
 mod lanes;
 mod rings;

@@ -39,6 +39,46 @@ pub fn run_to_departure(
     Ok(())
 }
 
+/// Walks a bridge that went through rows and a copy of it through the same rows after these, the copy first.
+fn walk_copy(
+    rt: &impl Abort,
+    alloc: Global,
+    mut bridge: Bridge,
+    before: &[Row],
+    after: &[Row],
+) -> Result<(), Fail> {
+    walk(rt, alloc, &mut bridge, before)?;
+    let mut copy = bridge.clone()?;
+    walk(rt, alloc, &mut copy, after)?;
+    walk(rt, alloc, &mut bridge, after)
+}
+
+/// Walks the bridge of this number in a network through rows, then a copy of it through the rows after these, and then
+/// the bridge. It keeps its steps, and then only counts them.
+pub fn run_copy(
+    rt: &impl Abort,
+    alloc: Global,
+    network: Network,
+    number: u8,
+    before: &[Row],
+    after: &[Row],
+) -> Result<(), Fail> {
+    walk_copy(
+        rt,
+        alloc,
+        started(rt, alloc, network, number)?,
+        before,
+        after,
+    )?;
+    walk_copy(
+        rt,
+        alloc,
+        counting(rt, alloc, network, number)?,
+        before,
+        after,
+    )
+}
+
 /// Returns the steps of a bridge after the rows.
 fn steps_after(
     rt: &impl Abort,

@@ -1,7 +1,7 @@
 //! One bridge with three customer ports of one service, and queues of one item.
 
 use super::BROADCAST;
-use super::harness::{run, run_to_departure};
+use super::harness::{run, run_copy, run_to_departure};
 use super::networks::Network;
 use super::rows::{Fate, Piece, Row};
 use pb_lan::{NoRoom, PortState, Reason};
@@ -242,4 +242,15 @@ const TAKEN_IN: &[Row] = &[
 #[test]
 fn a_step_tells_of_what_was_taken_in(rt: HostRuntime) -> Result<(), Fail> {
     run(&rt, rt.alloc(), NARROW, 1, TAKEN_IN)
+}
+
+#[test]
+fn a_copy_of_a_bridge_goes_on_alone(rt: HostRuntime) -> Result<(), Fail> {
+    const LEAVES: &[Row] = &[
+        Row::Waits { port: 2, items: 1 },
+        LEAVES_2,
+        LEAVES_3,
+        Row::Waits { port: 2, items: 0 },
+    ];
+    run_copy(&rt, rt.alloc(), ROOMY, 1, &[ENTERS], LEAVES)
 }

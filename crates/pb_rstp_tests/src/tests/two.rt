@@ -194,3 +194,18 @@ fn ports_offer_the_way_to_the_root(rt: HostRuntime) -> Result<(), Fail> {
     ];
     walk(&rt, rt.alloc(), &mut with_one_port(rt.alloc(), 2)?, ROWS)
 }
+
+#[test]
+fn a_copy_of_a_bridge_goes_on_alone(rt: HostRuntime) -> Result<(), Fail> {
+    const OPENS: &[Row] = &[
+        Row::Does(Call::Tick, ANY),
+        Row::Does(Call::Hear(1, Speech::Answer), ANY),
+    ];
+    let bridge = with_one_port(rt.alloc(), 1)?;
+    let mut copy = bridge.clone()?;
+    assert!(rt; copy.roles() == bridge.roles() && copy.states() == bridge.states());
+    walk(&rt, rt.alloc(), &mut copy, OPENS)?;
+    assert_eq!(rt; copy.states(), [(1, PortState::Forwarding)].as_slice());
+    assert_eq!(rt; bridge.states(), [(1, PortState::Discarding)].as_slice());
+    Ok(())
+}

@@ -4,7 +4,7 @@ ghost use Rattle.std.specs.Prelude.{◌<◌, ◌≤◌};
 
 use pb_fdb::{Entry, Fdb, Learnt};
 use pb_frame::Mac;
-use std::alloc::Global;
+use std::alloc::{AllocError, Global};
 use std::process::Abort;
 
 /// A command to a table, or a check of it.
@@ -44,6 +44,14 @@ impl Timed {
             table: Fdb::new(alloc, limit, ageing),
             now: 0,
         }
+    }
+
+    /// Returns a copy of the table at the same moment.
+    pub fn copied(&self) -> Result<Timed, AllocError> {
+        Ok(Timed {
+            table: self.table.clone()?,
+            now: self.now,
+        })
     }
 
     /// Walks the rows. A row that does not hold is named by its number from 0.
