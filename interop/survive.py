@@ -5,8 +5,8 @@ usage: interop/survive.py [--program FILE] [--plans N] [--seed N]
 
 Half of the plans give the states of ports, some of them discarding, and lists of services: the remaining forwarding links
 connect what they connect. The other half use RSTP with links for all services: after convergence the tree connects all
-bridges that the remaining links connect. Ticks are not compared. Half of each are analysed with `--own`. A report that
-differs is printed with its plan, and the exit status is 1."""
+bridges that the remaining links connect. Ticks are not compared. Half of each are analysed with `--own`, a third with one
+or two names of `--down`. A report that differs is printed with its plan, and the exit status is 1."""
 import argparse
 import itertools
 import random
@@ -47,6 +47,17 @@ class Plan:
             bridge = draw.randint(1, self.bridges)
             if used[bridge] < 16:
                 self.ports.append((bridge, port(bridge), draw.choice(self.services)))
+        self.downs, self.fallen = [], set()
+        for _ in range(draw.choice([0, 0, 0, 0, 1, 2]) if self.links else 0):
+            self.fall(draw)
+
+    def fall(self, draw):
+        """Has a link, a bridge or one end of a link down from the start."""
+        n = draw.randint(1, len(self.links))
+        a, a_port, b, b_port, _, _ = self.links[n - 1]
+        name = draw.choice([f"L{n}", f"B{a}:{a_port}", f"B{b}:{b_port}", f"B{a}"])
+        self.downs.append(name)
+        self.fallen |= {n} if name != f"B{a}" else {k for k, link in enumerate(self.links, 1) if a in (link[0], link[2])}
 
     def text(self):
         """Returns the plan file."""
@@ -67,8 +78,8 @@ class Plan:
         """Returns the numbers of the links that remain."""
         kind, *what = failure
         if kind == "bridge":
-            return [n for n, link in enumerate(self.links, 1) if what[0] not in (link[0], link[2])]
-        return [n for n in range(1, len(self.links) + 1) if n not in what]
+            return [n for n, link in enumerate(self.links, 1) if what[0] not in (link[0], link[2]) and n not in self.fallen]
+        return [n for n in range(1, len(self.links) + 1) if n not in what and n not in self.fallen]
 
     def view(self, failure, service):
         """Returns whether the active links are a forest, and the groups of the service's ports."""
@@ -129,14 +140,16 @@ def report(plan):
         judged = {n for n in old if counts(failure, n)}
         return sum(1 for group in new if set(group) & judged) > 1
 
-    lines = [head("nothing", base)]
+    nothing = "nothing else" if plan.downs else "nothing"
+    lines = [" ".join(["down:", *plan.downs])] if plan.downs else []
+    lines.append(head(nothing, base))
     for s in plan.services:
         lines += [] if base[s][0] else [f"  loop {s}"]
         lines.append(shown(s, base[s][1]))
     reasons = {s: unhealthy(s, base[s]) for s in plan.services}
     lines += [reason for s in plan.services for reason in reasons[s]]
     sick = sum(1 for s in plan.services if reasons[s])
-    health = f"not healthy with nothing down: {counted(sick, 'service')}" if sick else "healthy with nothing down"
+    health = f"not healthy with {nothing} down: {counted(sick, 'service')}" if sick else f"healthy with {nothing} down"
     lines.append(health)
     splitting = looping = 0
     for failure in failures:
@@ -183,6 +196,7 @@ def main():
             with open(file, "w", encoding="utf-8") as it:
                 it.write(plan.text())
             options = ["--pairs", "--bridges"] + (["--own"] if plan.own else [])
+            options += [word for name in plan.downs for word in ("--down", name)]
             ran = subprocess.run([given.program, "survive", *options, file], capture_output=True, text=True)
             printed = re.sub(r"within \d+ ticks?", "within N ticks", re.sub(r"ticks \d+", "ticks N", ran.stdout))
             want, status = report(plan)

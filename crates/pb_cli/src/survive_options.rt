@@ -4,8 +4,8 @@ ghost use Rattle.std.specs.Prelude.{◌≡◌, IfOk, string_bytes};
 ghost use Rattle.pb_cli.specs.CommandLines.{AreTicks};
 
 use crate::arguments::{
-    ALL_FAILURES, AS_TABLE, PLAN_FILE, ReportFormat, TICK_LIMIT, report_format_of, text_of,
-    ticks_of,
+    ALL_FAILURES, AS_TABLE, DOWNS, PLAN_FILE, ReportFormat, TICK_LIMIT, downs_of, report_format_of,
+    text_of, ticks_of,
 };
 use crate::table::{Argument, Takes};
 use clap::ArgMatches;
@@ -97,6 +97,7 @@ pub(crate) const ARGUMENTS: &[Argument] = &[
         excludes: &["format", "all-failures"],
     },
     ALL_FAILURES,
+    DOWNS,
     AS_TABLE,
     TICK_LIMIT,
     PLAN_FILE,
@@ -126,6 +127,8 @@ pub struct SurviveOptions {
     pub own: bool,
     /// The services that are analysed.
     pub scope: SurviveScope,
+    /// The names of links, bridges and ports that are down before anything fails.
+    pub downs: Vec<String>,
     /// The path of a file of acceptances besides those of the plan file.
     pub accept: Option<String>,
     /// Whether a stale acceptance changes the exit status.
@@ -169,12 +172,14 @@ pub(crate) fn survive_options(
     ensures ticks { IfOk result (λ options. AreTicks options.ticks) }
 {
     let scope = scope_of(alloc, given)?;
+    let downs = downs_of(alloc, given)?;
     Ok(SurviveOptions {
         path: String::from_str(alloc, path)?,
         pairs: given.get_flag("pairs"),
         bridges: given.get_flag("bridges"),
         own: given.get_flag("own"),
         scope,
+        downs,
         accept: text_of(alloc, given, "accept")?,
         strict: given.get_flag("strict"),
         prints_accept: given.get_flag("print-accept"),

@@ -387,8 +387,8 @@ rests_tell was is = (
 -- two impacts, and the effect that compares them
 pub effect_is : (old new : Plan) (services : List ℕ) (ticks events : ℕ) (what : Case) (before after : Impact)
     (effect : Effect)
-    → IsImpact old services ticks events what.old before
-    → IsImpact new (map (service_in old new) services) ticks events what.new after
+    → IsImpact old [] services ticks events what.old before
+    → IsImpact new [] (map (service_in old new) services) ticks events what.new after
     → effect ≡ effect_of old new what before after
     → IsEffect old new services ticks events what effect
 effect_is old new services ticks events what before after effect b a e = record {

@@ -15,6 +15,7 @@ use Rattle.pb_cmd_diff.specs.declared.end.DiffEnd.{DiffEnd}
 use Rattle.pb_cmd_diff.specs.declared.end.DiffEnd.TheVariants.{Kept, Worse, Lacking, OldRefused, NewRefused}
 use Rattle.pb_cmd_diff.specs.declared.ends.LinkEnds.{LinkEnds}
 use Rattle.pb_cmd_diff.specs.declared.effect.Effect.{Effect}
+use Rattle.pb_cmd_diff.specs.declared.effect.Sides.{Sides}
 
 -- how the command ends if something got worse or nothing did
 abbrev pub end_of : Bool → DiffEnd
@@ -29,14 +30,28 @@ pub record IsCompared (old new : Plan) (ticks events : ℕ) (all : Bool) (base :
   pub text_is : text ≡ diff_text old new all base effects olds news
   pub end_is : end ≡ end_of (worsens base effects)
 
--- the report on two plans: their networks with nothing down, and under each failure of either
+-- the same for two networks that are up
+abbrev pub IsComparedOn : Sides → Bool → Effect → List Effect → DiffEnd → List ℕ → Type 0
+IsComparedOn s all base effects end text =
+    IsCompared s.old.now.plan.now s.new.now.plan.now s.old.now.patience.ticks s.old.now.patience.events all base effects end text
+
+-- the report on two plans, whose networks are driven within these limits: with nothing down, and under each failure of either
+pub record IsReportWith (old new : Plan) (services : List ℕ) (ticks events : ℕ) (asked : Asked) (end : DiffEnd) (text : List ℕ) : Type 0 where
+  pub base : Effect
+  pub is_base : IsEffect old new services ticks events calm base
+  pub effects : List Effect
+  pub are_effects : AreEffects old new services ticks events (all_cases old new asked.kinds) effects
+  pub compared : IsCompared old new ticks events asked.all base effects end text
+
+-- the same for two networks that are up
+abbrev pub IsReportOn : Sides → Asked → DiffEnd → List ℕ → Type 0
+IsReportOn s asked end text =
+    IsReportWith s.old.now.plan.now s.new.now.plan.now s.olds.now s.old.now.patience.ticks s.old.now.patience.events asked end text
+
+-- the report on two plans: the services that both have, or the requested one
 pub record IsReport (old new : Plan) (asked : Asked) (end : DiffEnd) (text : List ℕ) : Type 0 where
   pub found : is_found old new asked.compared ≡ true
-  pub base : Effect
-  pub is_base : IsEffect old new (old_services old new asked.compared) asked.ticks most_events calm base
-  pub effects : List Effect
-  pub are_effects : AreEffects old new (old_services old new asked.compared) asked.ticks most_events (all_cases old new asked.kinds) effects
-  pub compared : IsCompared old new asked.ticks most_events asked.all base effects end text
+  pub report : IsReportWith old new (old_services old new asked.compared) asked.ticks most_events asked end text
 
 -- neither plan has the requested service
 pub record IsLacking (old new : Plan) (asked : Asked) (end : DiffEnd) (text : List ℕ) : Type 0 where

@@ -1,10 +1,9 @@
 -- What a failure does in each of two plans.
-use Rattle.std.specs.Prelude.{◌≡◌, ◌↔◌, ℕ, List, IsTrue, map}
+use Rattle.std.specs.Prelude.{◌≡◌, ◌↔◌, ℕ, List, [], IsTrue, map}
 use Rattle.std.specs.List.{AllZip, zip}
 use Rattle.pb_lan.specs.LastShapes.{last_shape}
-use Rattle.pb_lan.specs.Plans.{IsSound}
 use Rattle.pb_lan.specs.declared.plan.Plan.{Plan}
-use Rattle.pb_cmd_survive.specs.Impacts.{IsImpact}
+use Rattle.pb_cmd_survive.specs.Impacts.{IsImpact, IsStanding}
 use Rattle.pb_cmd_survive.specs.declared.impact.Impact.{Impact}
 use Rattle.pb_cmd_survive.specs.declared.view.View.{View}
 use Rattle.pb_cmd_diff.specs.Compared.{service_in}
@@ -14,6 +13,7 @@ use Rattle.pb_cmd_diff.specs.Verdicts.{is_worse, is_better}
 use Rattle.pb_cmd_diff.specs.declared.case.Case.{Case}
 use Rattle.pb_cmd_diff.specs.declared.effect.Effect.{Effect}
 use Rattle.pb_cmd_diff.specs.declared.effect.ServiceChange.{ServiceChange}
+use Rattle.pb_cmd_diff.specs.declared.effect.Sides.{Sides}
 
 -- a service in both networks
 abbrev pub change_of : Plan → Plan → (View × View) → ServiceChange
@@ -33,22 +33,30 @@ effect_of old new what before after = record {
   services = map (change_of old new) (zip before.views after.views);
 }
 
--- two sound plans, and the numbers of some services in both
-pub record AreSides (old new : Plan) (olds news : List ℕ) : Type 0 where
-  pub old_sound : IsSound old
-  pub new_sound : IsSound new
-  pub numbers : news ≡ map (service_in old new) olds
+-- two networks that are up with nothing down and driven within the same limits, and the numbers of some services in both
+pub record AreSides (s : Sides) : Type 0 where
+  pub old_up : IsStanding s.old.now
+  pub old_whole : s.old.now.names.now ≡ []
+  pub new_up : IsStanding s.new.now
+  pub new_whole : s.new.now.names.now ≡ []
+  pub limits : s.new.now.patience ≡ s.old.now.patience
+  pub numbers : s.news.now ≡ map (service_in s.old.now.plan.now s.new.now.plan.now) s.olds.now
 
 -- The effect compares the impact of the failure in OLD with its impact in NEW. It is worse, or better, exactly if a service
 -- or the bridges are, in the last shapes of the lawful records of both networks.
 pub record IsEffect (old new : Plan) (services : List ℕ) (ticks events : ℕ) (what : Case) (effect : Effect) : Type 0 where
   pub before : Impact
-  pub is_before : IsImpact old services ticks events what.old before
+  pub is_before : IsImpact old [] services ticks events what.old before
   pub after : Impact
-  pub is_after : IsImpact new (map (service_in old new) services) ticks events what.new after
+  pub is_after : IsImpact new [] (map (service_in old new) services) ticks events what.new after
   pub compared : effect ≡ effect_of old new what before after
   pub worse : IsTrue (is_worse effect) ↔ AreHarmed old new services (last_shape old is_before.last.rec) (last_shape new is_after.last.rec) what before.rest after.rest
   pub better : IsTrue (is_better effect) ↔ AreHelped old new services (last_shape old is_before.last.rec) (last_shape new is_after.last.rec) what before.rest after.rest
+
+-- the effect of a failure on two networks that are up
+abbrev pub IsEffectOn : Sides → Case → Effect → Type 0
+IsEffectOn s what effect =
+    IsEffect s.old.now.plan.now s.new.now.plan.now s.olds.now s.old.now.patience.ticks s.old.now.patience.events what effect
 
 -- the effects of these failures, in their order
 abbrev pub AreEffects : Plan → Plan → List ℕ → ℕ → ℕ → List Case → List Effect → Type 0

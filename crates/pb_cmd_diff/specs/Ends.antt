@@ -1,5 +1,5 @@
 -- The ends of links with nothing down, after the bridges have converged.
-use Rattle.std.specs.Prelude.{◌≡◌, ℕ, List, map, Option, Some, None}
+use Rattle.std.specs.Prelude.{◌≡◌, ℕ, List, [], map, Option, Some, None}
 use Rattle.pb_lan.specs.LastShapes.{last_shape}
 use Rattle.pb_lan.specs.Records.{IsLawfulRecord, steps_of}
 use Rattle.pb_lan.specs.Shapes.{state_in}
@@ -55,7 +55,7 @@ ends_by Rstp plan rec = map (protocol_link plan rec) plan.links
 pub record AreEnds (plan : Plan) (ticks events : ℕ) (ends : List LinkEnds) : Type 0 where
   pub rest : Rest
   pub last : NetView
-  pub calm : IsCalm plan ticks events rest last
+  pub calm : IsCalm plan [] ticks events rest last
   pub planned : last.plan ≡ plan
   pub lawful : IsLawfulRecord spanning_tree plan last.rec
   pub ends_are : ends ≡ ends_by plan.spanning plan last.rec

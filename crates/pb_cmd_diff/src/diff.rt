@@ -1,11 +1,14 @@
 //! The command `diff`.
 
-ghost use Rattle.std.specs.Prelude.{◌≡◌, ◌≢◌, ◌⊎◌, ◌++◌, List, ℕ, true, string_bytes, IfOk, IfErr};
+ghost use Rattle.std.specs.Prelude.{◌≡◌, ◌≢◌, ◌⊎◌, ◌++◌, List, ℕ, [], true, string_bytes, IfOk, IfErr};
 ghost use Rattle.std.specs.Io.KnownBytes.{Appends, Keeps};
 ghost use Rattle.pb_lan.specs.Plans.{IsSound};
 ghost use Rattle.pb_cmd_diff.specs.Cases.{calm};
 ghost use Rattle.pb_cmd_diff.specs.Compared.{is_found};
-ghost use Rattle.pb_cmd_diff.specs.Diffs.{end_of, IsCompared, IsReport, IsPlansText, IsNewText, IsDiffText};
+ghost use Rattle.pb_cmd_diff.specs.Diffs.{end_of, IsComparedOn, IsReport, IsReportOn, IsPlansText};
+ghost use Rattle.pb_cmd_diff.specs.Diffs.{IsNewText, IsDiffText};
+ghost use Rattle.pb_cmd_diff.specs.Effects.{AreSides};
+ghost use Rattle.pb_cmd_survive.specs.Impacts.{IsStanding};
 
 use crate::case::{Case, cases};
 use crate::compared::{Compared, is_found, old_services, put_no_such, services_in};
@@ -14,8 +17,9 @@ use crate::end::DiffEnd;
 use crate::ends::ends_of;
 use crate::report::put_report;
 use crate::verdict::worsens;
-use pb_cmd_survive::{Failure, FailureProgress, Kinds, Patience};
+use pb_cmd_survive::{Failure, FailureProgress, Kinds, Patience, Standing, raise};
 use pb_converge::{DriveFault, fault_of};
+use pb_frame::Memory;
 use pb_lan::Plan;
 use pb_messages::{CommandFault, write_whole};
 use pb_report::put_refusal;
@@ -65,22 +69,19 @@ fn put_effects(
     sides: &Sides<'_>,
     base: &Effect,
     effects: &[Effect],
-    patience: Patience,
     all: bool,
-) -> Result<DiffEnd, DriveFault>
-    requires old { IsSound sides.now.old.now }
-    requires new { IsSound sides.now.new.now }
+) -> Result<DiffEnd, Memory>
+    requires { AreSides sides.now }
     ensures { IfOk result (λ end. (text : List ℕ) × (string_bytes out.new ≡ string_bytes out.old ++ text)
-        × IsCompared sides.now.old.now sides.now.new.now patience.ticks patience.events all base.now effects.now end
-        text) }
+        × IsComparedOn sides.now all base.now effects.now end text) }
 {
-    let olds = ends_of(alloc, sides.old, patience)?;
-    let news = ends_of(alloc, sides.new, patience)?;
+    let olds = ends_of(alloc, sides.old)?;
+    let news = ends_of(alloc, sides.new)?;
     put_report(
         alloc,
         out,
-        sides.old,
-        sides.new,
+        sides.old.plan,
+        sides.new.plan,
         base,
         effects,
         olds.as_slice(),
@@ -90,9 +91,44 @@ fn put_effects(
     Ok(end_of(worsens(base, effects)))
 }
 
-/// Compares the networks of two plans with nothing down and under each failure, and appends the report. Returns how the
-/// command ends.
+/// Compares two networks with nothing down and under each failure, and appends the report. Returns how the command ends.
 fn put_looks<R: Threads + Sync, V: FailureProgress>(
+    rt: &R,
+    alloc: Global,
+    out: &mut String,
+    sides: &Sides<'_>,
+    asked: &Asked<'_>,
+    progress: &V,
+) -> Result<DiffEnd, DriveFault>
+    requires sides { AreSides sides.now }
+    ensures { IfOk result (λ end. (text : List ℕ) × (string_bytes out.new ≡ string_bytes out.old ++ text)
+        × IsReportOn sides.now asked.now end text) }
+{
+    let cases = cases(alloc, sides.old.plan, sides.new.plan, asked.kinds)?;
+    let base = look_at_case(alloc, sides, calm())?;
+    let effects = look_at_cases(rt, alloc, sides, cases.as_slice(), progress)?;
+    Ok(put_effects(alloc, out, sides, &base, effects.as_slice(), asked.all)?)
+}
+
+/// Brings the network of a plan up, with nothing down. Fails as [`raise`] does.
+fn raise_whole<'a>(
+    alloc: Global,
+    plan: &'a Plan,
+    none: &'a [String],
+    patience: Patience,
+) -> Result<Standing<'a>, DriveFault>
+    requires sound { IsSound plan.now }
+    requires none { none.now ≡ [] }
+    ensures { IfOk result (λ s. (s.plan.now ≡ plan.now) × (s.names.now ≡ []) × (s.patience ≡ patience) × IsStanding s) }
+{
+    match raise(alloc, plan, none, patience)? {
+        Ok(standing) => Ok(standing),
+        Err(_) => unreachable!(),
+    }
+}
+
+/// Brings the networks of two plans up, compares them, and appends the report. Returns how the command ends.
+fn put_raised<R: Threads + Sync, V: FailureProgress>(
     rt: &R,
     alloc: Global,
     out: &mut String,
@@ -109,28 +145,20 @@ fn put_looks<R: Threads + Sync, V: FailureProgress>(
 {
     let olds = old_services(alloc, old, new, &asked.compared)?;
     let news = services_in(alloc, old, new, olds.as_slice())?;
-    let cases = cases(alloc, old, new, asked.kinds)?;
     let patience = Patience {
         ticks: asked.ticks,
         events: MOST_EVENTS,
     };
+    let none: Vec<String> = Vec::new(alloc);
+    let old_up = raise_whole(alloc, old, none.as_slice(), patience)?;
+    let new_up = raise_whole(alloc, new, none.as_slice(), patience)?;
     let sides = Sides {
-        old,
-        new,
+        old: &old_up,
+        new: &new_up,
         olds: olds.as_slice(),
         news: news.as_slice(),
     };
-    let base = look_at_case(alloc, &sides, calm(), patience)?;
-    let effects = look_at_cases(rt, alloc, &sides, cases.as_slice(), patience, progress)?;
-    Ok(put_effects(
-        alloc,
-        out,
-        &sides,
-        &base,
-        effects.as_slice(),
-        patience,
-        asked.all,
-    )?)
+    put_looks(rt, alloc, out, &sides, asked, progress)
 }
 
 /// Appends the report on two plans, or that neither has the requested service. Returns how the command ends.
@@ -149,7 +177,7 @@ fn put_plans<R: Threads + Sync, V: FailureProgress>(
         × IsPlansText old.now new.now asked.now end text) }
 {
     if is_found(old, new, &asked.compared) {
-        return put_looks(rt, alloc, out, old, new, asked, progress);
+        return put_raised(rt, alloc, out, old, new, asked, progress);
     }
     put_no_such(out, &asked.compared)?;
     Ok(DiffEnd::Lacking)

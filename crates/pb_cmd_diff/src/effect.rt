@@ -1,19 +1,17 @@
 //! What a failure does in each of two plans.
 
 ghost use Rattle.std.specs.Prelude.{◌≡◌, map, IfOk};
-ghost use Rattle.std.specs.List.{zip};
+ghost use Rattle.std.specs.List.{AllZip, zip};
 ghost use Rattle.pb_lan.specs.Plans.{IsSound};
-ghost use Rattle.pb_cmd_diff.specs.Effects.{change_of, effect_of, AreSides, IsEffect, AreEffects};
+ghost use Rattle.pb_cmd_diff.specs.Effects.{change_of, effect_of, AreSides, IsEffectOn};
 
 use crate::case::Case;
 use crate::member::{Member, members};
-use pb_cmd_survive::{FailureProgress, Impact, Patience, View, look_at};
+use pb_cmd_survive::{FailureProgress, Impact, Standing, View, look_at, look_each};
 use pb_converge::{DriveFault, Rest};
 use pb_frame::{Memory, Seq};
 use pb_lan::Plan;
-use rayon::prelude::*;
-use std::alloc::{AllocError, Global};
-use std::sync::OnceLock;
+use std::alloc::Global;
 use std::thread::Threads;
 
 /// A service in two networks.
@@ -42,13 +40,13 @@ pub struct Effect {
     pub services: Seq<ServiceChange>,
 }
 
-/// Two sound plans, and the services to compare by their numbers in each.
+/// The networks of two plans, both up with nothing down, and the services to compare by their numbers in each.
 #[derive(Clone, Copy)]
 pub struct Sides<'a> {
-    /// OLD.
-    pub old: &'a Plan,
-    /// NEW.
-    pub new: &'a Plan,
+    /// The network of OLD.
+    pub old: &'a Standing<'a>,
+    /// The network of NEW.
+    pub new: &'a Standing<'a>,
     /// The numbers of the services in OLD.
     pub olds: &'a [u8],
     /// The numbers of the same services in NEW, by their names.
@@ -120,7 +118,7 @@ fn effect_of(
     })
 }
 
-/// Returns what a failure does in each of two plans. [`look_at`] analyses it in each.
+/// Returns what a failure does in each of two networks. [`look_at`] analyses it in each.
 ///
 /// The effect is worse exactly if two of the customer ports that a service has in both plans reach each other in OLD's
 /// network at the end and not in NEW's, if a service's active links form a loop in NEW's alone, or if the bridges of
@@ -129,48 +127,18 @@ fn effect_of(
 /// # Errors
 ///
 /// Those of [`look_at`].
-pub fn look_at_case(
-    alloc: Global,
-    sides: &Sides<'_>,
-    what: Case,
-    patience: Patience,
-) -> Result<Effect, DriveFault>
-    requires { AreSides sides.now.old.now sides.now.new.now sides.now.olds.now sides.now.news.now }
-    ensures { IfOk result (IsEffect sides.now.old.now sides.now.new.now sides.now.olds.now patience.ticks
-        patience.events what) }
+pub fn look_at_case(alloc: Global, sides: &Sides<'_>, what: Case) -> Result<Effect, DriveFault>
+    requires { AreSides sides.now }
+    ensures { IfOk result (IsEffectOn sides.now what) }
 {
-    let before = look_at(alloc, sides.old, sides.olds, what.old, patience)?;
-    let after = look_at(alloc, sides.new, sides.news, what.new, patience)?;
-    Ok(effect_of(alloc, sides.old, sides.new, what, &before, &after)?)
-}
-
-/// Returns what one of several failures does, as [`look_at_case`] does, or the fault in `met` if another analysis has
-/// met one. The first fault is kept in `met`.
-fn look_unless_met(
-    alloc: Global,
-    sides: &Sides<'_>,
-    what: Case,
-    patience: Patience,
-    met: &OnceLock<DriveFault>,
-) -> Result<Effect, DriveFault>
-    requires { AreSides sides.now.old.now sides.now.new.now sides.now.olds.now sides.now.news.now }
-    ensures { IfOk result (IsEffect sides.now.old.now sides.now.new.now sides.now.olds.now patience.ticks
-        patience.events what) }
-{
-    if let Some(fault) = met.get() {
-        return Err(*fault);
-    }
-    let looked = look_at_case(alloc, sides, what, patience);
-    if let Err(fault) = &looked {
-        let _ = met.try_set(*fault);
-    }
-    looked
+    let before = look_at(alloc, sides.old, sides.olds, what.old)?;
+    let after = look_at(alloc, sides.new, sides.news, what.new)?;
+    Ok(effect_of(alloc, sides.old.plan, sides.new.plan, what, &before, &after)?)
 }
 
 /// Returns what several failures do, in their order, each as [`look_at_case`] returns it.
 ///
-/// Failures are analysed in parallel, by as many threads as there are processors or twice as many. If a thread can't be
-/// started, its share is done in turn. `progress.looked` is called after each failure.
+/// Failures are analysed in parallel, as [`look_each`] does. `progress.looked` is called after each failure.
 ///
 /// # Errors
 ///
@@ -181,33 +149,14 @@ pub fn look_at_cases<R: Threads + Sync, V: FailureProgress>(
     alloc: Global,
     sides: &Sides<'_>,
     cases: &[Case],
-    patience: Patience,
     progress: &V,
 ) -> Result<Vec<Effect>, DriveFault>
-    requires { AreSides sides.now.old.now sides.now.new.now sides.now.olds.now sides.now.news.now }
-    ensures { IfOk result (λ effects. AreEffects sides.now.old.now sides.now.new.now sides.now.olds.now
-        patience.ticks patience.events cases.now effects.items) }
+    requires { AreSides sides.now }
+    ensures { IfOk result (λ effects. AllZip (IsEffectOn sides.now) cases.now effects.items) }
 {
-    let all = cases.len();
-    let fault = OnceLock::new();
-    let met = &fault;
-    let looked: Result<Result<Vec<Effect>, DriveFault>, AllocError> = cases
-        .par_iter()
-        .with_min_len(1)
-        .map(
-            |what: &Case| -> Result<Effect, DriveFault>
-                requires { AreSides sides.now.old.now sides.now.new.now sides.now.olds.now sides.now.news.now }
-                ensures { IfOk result (IsEffect sides.entry.now.old.now sides.entry.now.new.now
-                    sides.entry.now.olds.now patience.ticks patience.events what.now) }
-            {
-                let looked = look_unless_met(alloc, sides, *what, patience, met);
-                progress.looked(all);
-                looked
-            },
-        )
-        .collect(rt, alloc);
-    match looked {
-        Ok(effects) => effects,
-        Err(_) => Err(DriveFault::Memory),
-    }
+    let look = |what: Case| -> Result<Effect, DriveFault>
+        requires { AreSides sides.now }
+        ensures { IfOk result (IsEffectOn sides.entry.now what) }
+    { look_at_case(alloc, sides, what) };
+    look_each(rt, alloc, cases, &look, progress)
 }

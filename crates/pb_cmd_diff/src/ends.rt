@@ -1,6 +1,7 @@
 //! The ends of links with nothing down.
 
-ghost use Rattle.std.specs.Prelude.{◌≡◌, map, length, IfOk};
+ghost use Rattle.std.specs.Prelude.{◌≡◌, [], map, length, IfOk};
+ghost use Rattle.pb_cmd_survive.specs.Impacts.{IsStanding};
 ghost use Rattle.pb_lan.specs.Plans.{IsSound, IsNumber};
 ghost use Rattle.pb_lan.specs.Records.{IsLawfulRecord};
 ghost use Rattle.pb_relay.specs.Protocol.{spanning_tree};
@@ -8,8 +9,8 @@ ghost use Rattle.pb_lan.specs.declared.plan.Spanning.TheVariants.{Rstp as by_pro
 ghost use Rattle.pb_cmd_diff.specs.Ends.{computed_at, protocol_end, given_at, given_link, protocol_link, ends_by};
 ghost use Rattle.pb_cmd_diff.specs.Ends.{AreEnds};
 
-use pb_cmd_survive::Patience;
-use pb_converge::{DriveFault, fresh, settle, shape_of};
+use pb_cmd_survive::Standing;
+use pb_converge::{copied, shape_of};
 use pb_forest::state_in;
 use pb_frame::Memory;
 use pb_lan::{End, Plan, PortState, Shape, Spanning};
@@ -122,18 +123,18 @@ fn ends_in(alloc: Global, net: Net, plan: &Plan) -> Result<Vec<LinkEnds>, Memory
     }
 }
 
-/// Returns the ends of all links of a plan's network with nothing down, after its bridges have converged (IEEE
-/// 802.1D-2004 clause 17), in the plan's order. If the plan gives the states, they are the plan's.
+/// Returns the ends of all links of a network that is up with nothing down, as they were when its bridges had converged
+/// (IEEE 802.1D-2004 clause 17), in the plan's order. If the plan gives the states, they are the plan's.
 ///
 /// # Errors
 ///
-/// `Memory` if an allocation failed, `Steps` if a place would take more steps than the plan allows, and `Events` if
-/// more than `patience.events` events are due.
-pub fn ends_of(alloc: Global, plan: &Plan, patience: Patience) -> Result<Vec<LinkEnds>, DriveFault>
-    requires { IsSound plan.now }
-    ensures { IfOk result (λ ends. AreEnds plan.now patience.ticks patience.events ends.items) }
+/// `Memory` if an allocation failed.
+pub fn ends_of(alloc: Global, standing: &Standing<'_>) -> Result<Vec<LinkEnds>, Memory>
+    requires up { IsStanding standing.now }
+    requires whole { standing.now.names.now ≡ [] }
+    ensures { IfOk result (λ ends. AreEnds standing.now.plan.now standing.now.patience.ticks standing.now.patience.events
+        ends.items) }
 {
-    let mut net = fresh(alloc, plan)?;
-    settle(alloc, &mut net, plan, patience.ticks, patience.events)?;
-    Ok(ends_in(alloc, net, plan)?)
+    let net = copied(&standing.calm)?;
+    Ok(ends_in(alloc, net, standing.plan)?)
 }

@@ -1,7 +1,9 @@
 -- The report on a network under failures.
-use Rattle.std.specs.Prelude.{ℕ, Bool, true, false, List, [], ◌∷◌, ◌++◌, Option, Some, None, flat_map, length, codes, nat_lt, ◌==◌, not, max, count_by, if◌then◌else◌}
+use Rattle.std.specs.Prelude.{ℕ, Bool, true, false, List, [], ◌∷◌, ◌++◌, Option, Some, None, flat_map, length, codes, nat_lt, ◌==◌, not, max, count_by, string_bytes, if◌then◌else◌}
 use Rattle.std.specs.Fmt.{decimal}
+use Rattle.std.specs.Global.{Global}
 use Rattle.std.specs.List.{list_any, zip}
+use Rattle.std.specs.declared.string.String.{String}
 use Rattle.pb_lan.specs.declared.plan.Plan.{Plan}
 use Rattle.pb_names.specs.Names.{bridge_name, link_name, port_name, service_name}
 use Rattle.pb_converge.specs.declared.rest.Rest.{Rest}
@@ -98,9 +100,17 @@ parting_line plan criteria v = parting_by plan criteria criteria.from v
 abbrev pub view_text : Plan → Criteria → (View × View) → List ℕ
 view_text plan criteria v = loop_line plan v.1 ++ (if parts_view criteria v then parting_line plan criteria v else [])
 
--- the lines with nothing down: one for each service, and one more for each loop
-abbrev pub whole_text : Plan → Impact → List ℕ
-whole_text plan o = head_line plan o ++ flat_map (λ v. loop_line plan v ++ service_line plan v) o.views
+-- that nothing is down, or nothing besides what was down before
+abbrev pub calm_words : Criteria → List ℕ
+calm_words criteria = if criteria.impaired then codes "nothing else down" else codes "nothing down"
+
+-- the first line with nothing, or nothing else, down
+abbrev pub calm_line : Criteria → Impact → List ℕ
+calm_line criteria o = calm_words criteria ++ codes ": " ++ rest_text o.rest ++ forest_text o.views ++ 10 ∷ []
+
+-- the lines then: one for each service, and one more for each loop
+abbrev pub whole_text : Plan → Criteria → Impact → List ℕ
+whole_text plan criteria o = calm_line criteria o ++ flat_map (λ v. loop_line plan v ++ service_line plan v) o.views
 
 -- a line about a service
 abbrev pub about_line : Plan → View → List ℕ → List ℕ
@@ -129,20 +139,24 @@ unhealthy_text views =
 abbrev pub unsettled_text : Impact → List ℕ → List ℕ
 unsettled_text base what = if is_settled base.rest then [] else what
 
+-- how many services are not healthy, and whether the bridges converge
+abbrev pub summary_text : Impact → List ℕ
+summary_text base = unhealthy_text base.views ++ unsettled_text base (codes ", bridges do not converge") ++ 10 ∷ []
+
 -- the summary of a network that is not healthy
-abbrev pub unhealthy_line : Impact → List ℕ
-unhealthy_line base =
-    codes "not healthy with nothing down: " ++ unhealthy_text base.views
-    ++ unsettled_text base (codes ", bridges do not converge") ++ 10 ∷ []
+abbrev pub unhealthy_line : Criteria → Impact → List ℕ
+unhealthy_line criteria base = codes "not healthy with " ++ calm_words criteria ++ codes ": " ++ summary_text base
 
 -- that the network is healthy, or its summary
-abbrev pub health_line : Impact → List ℕ
-health_line base = if is_healthy base then codes "healthy with nothing down" ++ 10 ∷ [] else unhealthy_line base
+abbrev pub health_line : Criteria → Impact → List ℕ
+health_line criteria base =
+    if is_healthy base then codes "healthy with " ++ calm_words criteria ++ 10 ∷ [] else unhealthy_line criteria base
 
 -- the lines of its health: each reason why it is not healthy, and the summary
-abbrev pub health_text : Plan → Impact → List ℕ
-health_text plan base =
-    unsettled_text base (codes "bridges do not converge" ++ 10 ∷ []) ++ flat_map (reasons_text plan) base.views ++ health_line base
+abbrev pub health_text : Plan → Criteria → Impact → List ℕ
+health_text plan criteria base =
+    unsettled_text base (codes "bridges do not converge" ++ 10 ∷ []) ++ flat_map (reasons_text plan) base.views
+    ++ health_line criteria base
 
 -- the word before a failure that is accepted
 abbrev pub mark_text : Criteria → List Acceptance → Impact → Impact → List ℕ
@@ -233,9 +247,9 @@ surviving_line excused =
     else codes "survives every single failure" ++ 10 ∷ []
 
 -- the last line, if the counts are not the last ones
-abbrev pub last_line : Impact → Bool → Bool → List ℕ
-last_line base survived excused =
-    if survived then surviving_line excused else (if is_healthy base then [] else unhealthy_line base)
+abbrev pub last_line : Criteria → Impact → Bool → Bool → List ℕ
+last_line criteria base survived excused =
+    if survived then surviving_line excused else (if is_healthy base then [] else unhealthy_line criteria base)
 
 -- some failure is accepted
 abbrev pub any_excused : Criteria → List Acceptance → Impact → List Impact → Bool
@@ -245,10 +259,17 @@ any_excused criteria acceptances base impacts = list_any (is_excused criteria ac
 abbrev pub ending_text : Plan → Criteria → List Acceptance → Impact → List Impact → List ℕ
 ending_text plan criteria acceptances base impacts =
     totals_text criteria acceptances base impacts ++ stale_text plan criteria acceptances base impacts
-    ++ last_line base (survives criteria acceptances base impacts) (any_excused criteria acceptances base impacts)
+    ++ last_line criteria base (survives criteria acceptances base impacts) (any_excused criteria acceptances base impacts)
+
+-- the line of what is down before anything fails, if anything is
+abbrev pub names_text : List (String Global) → List ℕ
+names_text names = flat_map (λ w. 32 ∷ string_bytes w) names
+
+abbrev pub downs_line : List (String Global) → List ℕ
+downs_line names = if length names == 0 then [] else codes "down:" ++ names_text names ++ 10 ∷ []
 
 -- the report on a network with nothing down, and under failures
 abbrev pub report_text : Plan → Criteria → List Acceptance → Impact → List Impact → List ℕ
 report_text plan criteria acceptances base impacts =
-    whole_text plan base ++ health_text plan base ++ flat_map (impact_text plan criteria acceptances base) impacts
+    whole_text plan criteria base ++ health_text plan criteria base ++ flat_map (impact_text plan criteria acceptances base) impacts
     ++ ending_text plan criteria acceptances base impacts

@@ -9,4 +9,6 @@ pub struct Criteria {
     pub own: bool,
     /// Whether harmless failures are reported too.
     pub all: bool,
+    /// Whether something is down before anything fails.
+    pub impaired: bool,
 }

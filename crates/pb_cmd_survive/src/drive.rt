@@ -1,34 +1,18 @@
 //! Drives a network into a failure.
 
 ghost use Rattle.std.specs.Prelude.{◌≡◌, ◌++◌, ◌+◌, IfOk, OnOk};
-ghost use Rattle.pb_converge.specs.Falls.{fresh};
 ghost use Rattle.pb_lan.specs.Plans.{IsSound};
-ghost use Rattle.pb_lan.specs.Records.{IsLawfulRecord};
 ghost use Rattle.pb_net.specs.Answers.{HaveRun};
-ghost use Rattle.pb_relay.specs.Protocol.{spanning_tree};
-ghost use Rattle.pb_converge.specs.Drives.{HasRested};
 ghost use Rattle.pb_cmd_survive.specs.Failures.{downs, downs_of, is_hit, set_down};
-ghost use Rattle.pb_cmd_survive.specs.Impacts.{HasFailedFrom, IsDriven};
+ghost use Rattle.pb_cmd_survive.specs.Impacts.{IsDriven, IsFailed, IsStanding};
 
 use crate::failure::Failure;
-use pb_converge::{DriveFault, Rest, settle, stand};
+use crate::standing::Standing;
+use pb_converge::{DriveFault, Rest, copied, settle};
 use pb_frame::Memory;
 use pb_lan::{End, Event, LinkPlan, Plan};
 use pb_net::{Net, NetFault};
 use std::alloc::Global;
-
-/// The ticks of each bridge for which the network is up before anything fails. The spanning tree's hold counts have run
-/// down then.
-const STANDING: u32 = 60;
-
-/// The limits on driving a network to convergence.
-#[derive(Clone, Copy, PartialEq, Eq, Debug)]
-pub struct Patience {
-    /// The most ticks of each bridge.
-    pub ticks: u32,
-    /// The most events besides the ticks.
-    pub events: u64,
-}
 
 /// Checks whether the failure disables the link with this number.
 fn is_hit(failure: Failure, number: u8, link: &LinkPlan) -> bool
@@ -97,44 +81,36 @@ fn take_down(alloc: Global, net: &mut Net, plan: &Plan, failure: Failure) -> Res
     }
 }
 
-/// Lets the network go on for a while, disables the links that fail, and drives the network to convergence again.
-fn fail(
-    alloc: Global,
-    net: &mut Net,
-    plan: &Plan,
-    failure: Failure,
-    patience: Patience,
-) -> Result<Rest, DriveFault>
-    requires sound { IsSound plan.now }
-    requires plan { net.old.plan ≡ plan.now }
-    ensures plan { OnOk result (net.new.plan ≡ plan.now) }
-    ensures ok { IfOk result (λ rest.
-        HasFailedFrom plan.now patience.ticks patience.events failure net.old rest net.new) }
+/// Lets a copy of a network that is up fail: disables the links that fail, and drives it to convergence again.
+fn fail(alloc: Global, standing: &Standing<'_>, failure: Failure) -> Result<(Net, Rest), DriveFault>
+    requires { IsStanding standing.now }
+    ensures plan { IfOk result (λ after. after.0.plan ≡ standing.now.plan.now) }
+    ensures ok { IfOk result (λ after. IsFailed standing.now.plan.now standing.now.names.now standing.now.patience.ticks
+        standing.now.patience.events failure after.1 after.0) }
 {
-    stand(net, plan, STANDING, patience.events)?;
-    take_down(alloc, net, plan, failure)?;
-    settle(alloc, net, plan, patience.ticks, patience.events)
+    let (plan, patience) = (standing.plan, standing.patience);
+    let mut net = copied(&standing.up)?;
+    take_down(alloc, &mut net, plan, failure)?;
+    let rest = settle(alloc, &mut net, plan, patience.ticks, patience.events)?;
+    Ok((net, rest))
 }
 
-/// Drives a new network to convergence, on for a while, into the failure and to convergence again. With
-/// `Failure::Nothing` it converges once.
+/// Drives a copy of a network that is up into a failure and to convergence again. Returns it, and whether its bridges
+/// converged. With `Failure::Nothing` it is the network as it was when they had converged.
 pub(crate) fn drive(
     alloc: Global,
-    net: &mut Net,
-    plan: &Plan,
+    standing: &Standing<'_>,
     failure: Failure,
-    patience: Patience,
-) -> Result<Rest, DriveFault>
-    requires sound { IsSound plan.now }
-    requires start { net.old ≡ fresh plan.now }
-    ensures plan { OnOk result (net.new.plan ≡ plan.now) }
-    ensures ok { IfOk result (λ rest. IsDriven plan.now patience.ticks patience.events failure rest net.new) }
+) -> Result<(Net, Rest), DriveFault>
+    requires { IsStanding standing.now }
+    ensures plan { IfOk result (λ after. after.0.plan ≡ standing.now.plan.now) }
+    ensures ok { IfOk result (λ after. IsDriven standing.now.plan.now standing.now.names.now standing.now.patience.ticks
+        standing.now.patience.events failure after.1 after.0) }
 {
-    let rest = settle(alloc, net, plan, patience.ticks, patience.events)?;
     match failure {
-        Failure::Nothing => Ok(rest),
+        Failure::Nothing => Ok((copied(&standing.calm)?, standing.rest)),
         Failure::Link(_) | Failure::Pair(_, _) | Failure::Bridge(_) => {
-            fail(alloc, net, plan, failure, patience)
+            fail(alloc, standing, failure)
         }
     }
 }

@@ -3,10 +3,11 @@
 ghost use Rattle.std.specs.Prelude.{◌≡◌, ◌++◌, flat_map, not, count_by, string_bytes, OnOk};
 ghost use Rattle.pb_cmd_survive.specs.Reports.{about_line, split_line, loop_reason_line, few_line, reasons_text};
 ghost use Rattle.pb_cmd_survive.specs.Reports.{unsettled_text, unhealthy_text, unhealthy_line};
-ghost use Rattle.pb_cmd_survive.specs.Reports.{health_line, health_text};
+ghost use Rattle.pb_cmd_survive.specs.Reports.{calm_words, summary_text, health_line, health_text};
 ghost use Rattle.pb_cmd_survive.specs.Verdicts.{is_healthy_service};
 
 use crate::counted::put_counted;
+use crate::criteria::Criteria;
 use crate::impact::Impact;
 use crate::verdict::{is_healthy, is_healthy_service, is_settled, is_split};
 use crate::view::View;
@@ -96,26 +97,53 @@ fn put_unsettled(out: &mut String, base: &Impact, what: &str) -> Result<(), Memo
     Ok(())
 }
 
-/// Appends the summary of a network that is not healthy.
-pub(crate) fn put_unhealthy(out: &mut String, base: &Impact) -> Result<(), Memory>
-    ensures { OnOk result (string_bytes out.new ≡ string_bytes out.old ++ unhealthy_line base.now) }
+/// Appends that nothing is down, or nothing besides what was down before.
+pub(crate) fn put_calm(out: &mut String, criteria: Criteria) -> Result<(), Memory>
+    ensures { OnOk result (string_bytes out.new ≡ string_bytes out.old ++ calm_words criteria) }
 {
-    out.push_str("not healthy with nothing down: ")?;
+    if criteria.impaired {
+        out.push_str("nothing else down")?;
+    } else {
+        out.push_str("nothing down")?;
+    }
+    Ok(())
+}
+
+/// Appends the end of the summary of a network that is not healthy.
+fn put_summary(out: &mut String, base: &Impact) -> Result<(), Memory>
+    ensures { OnOk result (string_bytes out.new ≡ string_bytes out.old ++ summary_text base.now) }
+{
     put_services(out, base.views.as_slice())?;
     put_unsettled(out, base, ", bridges do not converge")?;
     out.push_str("\n")?;
     Ok(())
 }
 
-/// Appends that the network is healthy, or the summary.
-fn put_health_line(out: &mut String, base: &Impact) -> Result<(), Memory>
-    ensures { OnOk result (string_bytes out.new ≡ string_bytes out.old ++ health_line base.now) }
+/// Appends the summary of a network that is not healthy.
+pub(crate) fn put_unhealthy(
+    out: &mut String,
+    criteria: Criteria,
+    base: &Impact,
+) -> Result<(), Memory>
+    ensures { OnOk result (string_bytes out.new ≡ string_bytes out.old ++ unhealthy_line criteria base.now) }
 {
-    if is_healthy(base) {
-        out.push_str("healthy with nothing down\n")?;
-        return Ok(());
+    out.push_str("not healthy with ")?;
+    put_calm(out, criteria)?;
+    out.push_str(": ")?;
+    put_summary(out, base)
+}
+
+/// Appends that the network is healthy, or the summary.
+fn put_health_line(out: &mut String, criteria: Criteria, base: &Impact) -> Result<(), Memory>
+    ensures { OnOk result (string_bytes out.new ≡ string_bytes out.old ++ health_line criteria base.now) }
+{
+    if !is_healthy(base) {
+        return put_unhealthy(out, criteria, base);
     }
-    put_unhealthy(out, base)
+    out.push_str("healthy with ")?;
+    put_calm(out, criteria)?;
+    out.push_str("\n")?;
+    Ok(())
 }
 
 /// Appends the reasons why services are not healthy.
@@ -130,10 +158,15 @@ fn put_all_reasons(out: &mut String, plan: &Plan, views: &[View]) -> Result<(), 
 }
 
 /// Appends the lines of the network's health with nothing down: each reason why it is not healthy, and the summary.
-pub(crate) fn put_health(out: &mut String, plan: &Plan, base: &Impact) -> Result<(), Memory>
-    ensures { OnOk result (string_bytes out.new ≡ string_bytes out.old ++ health_text plan.now base.now) }
+pub(crate) fn put_health(
+    out: &mut String,
+    plan: &Plan,
+    criteria: Criteria,
+    base: &Impact,
+) -> Result<(), Memory>
+    ensures { OnOk result (string_bytes out.new ≡ string_bytes out.old ++ health_text plan.now criteria base.now) }
 {
     put_unsettled(out, base, "bridges do not converge\n")?;
     put_all_reasons(out, plan, base.views.as_slice())?;
-    put_health_line(out, base)
+    put_health_line(out, criteria, base)
 }

@@ -6,12 +6,13 @@ ghost use Rattle.std.specs.List.{zip};
 ghost use Rattle.pb_cmd_survive.specs.Reports.{failure_text, rest_text, forest_text, head_line, member_text};
 ghost use Rattle.pb_cmd_survive.specs.Reports.{group_text, later_text, groups_text, service_line, loop_line, lost_text};
 ghost use Rattle.pb_cmd_survive.specs.Reports.{cut_off_line, parting_line, view_text, whole_text, impact_text, no_site};
+ghost use Rattle.pb_cmd_survive.specs.Reports.{calm_line};
 ghost use Rattle.pb_cmd_survive.specs.Reports.{report_text, mark_text, any_excused, ending_text};
 ghost use Rattle.pb_cmd_survive.specs.Judgements.{survives};
 
 use crate::criteria::Criteria;
 use crate::failure::Failure;
-use crate::health::put_health;
+use crate::health::{put_calm, put_health};
 use crate::impact::Impact;
 use crate::judgement::{is_excused, survives};
 use crate::parting::{is_lost, parts_view};
@@ -253,11 +254,28 @@ fn put_views(
     Ok(())
 }
 
-/// Appends the lines of the network with nothing down.
-fn put_whole(out: &mut String, plan: &Plan, impact: &Impact) -> Result<(), Memory>
-    ensures { OnOk result (string_bytes out.new ≡ string_bytes out.old ++ whole_text plan.now impact.now) }
+/// Appends the first line of the network with nothing, or nothing else, down.
+fn put_calm_line(out: &mut String, criteria: Criteria, impact: &Impact) -> Result<(), Memory>
+    ensures { OnOk result (string_bytes out.new ≡ string_bytes out.old ++ calm_line criteria impact.now) }
 {
-    put_head(out, plan, impact)?;
+    put_calm(out, criteria)?;
+    out.push_str(": ")?;
+    put_rest(out, impact.rest)?;
+    put_forest(out, impact.views.as_slice())?;
+    out.push_str("\n")?;
+    Ok(())
+}
+
+/// Appends the lines of the network with nothing, or nothing else, down.
+fn put_whole(
+    out: &mut String,
+    plan: &Plan,
+    criteria: Criteria,
+    impact: &Impact,
+) -> Result<(), Memory>
+    ensures { OnOk result (string_bytes out.new ≡ string_bytes out.old ++ whole_text plan.now criteria impact.now) }
+{
+    put_calm_line(out, criteria, impact)?;
     for view in impact.views.as_slice() {
         put_loop(out, plan, view)?;
         put_service(out, plan, view)?;
@@ -357,7 +375,7 @@ fn put_ending(
     put_stale(out, plan, criteria, acceptances, base, impacts)?;
     let survived = survives(criteria, acceptances, base, impacts);
     let excused = any_excused(criteria, acceptances, base, impacts);
-    put_last(out, base, survived, excused)?;
+    put_last(out, criteria, base, survived, excused)?;
     Ok(survived)
 }
 
@@ -371,7 +389,8 @@ fn put_ending(
 /// come the kinds of failures, the most ticks to convergence, how many failures do which harm, and the acceptances that
 /// are stale or were not tried. The last line is the verdict. It says that the network survives only if it is healthy
 /// and no failure disconnects a service without acceptance, leaves a loop, or keeps the bridges from converging.
-/// `criteria` has the ports that count as disconnected.
+/// `criteria` has the ports that count as disconnected, and whether something was down before, so that the lines speak
+/// of nothing else down.
 ///
 /// # Errors
 ///
@@ -388,8 +407,8 @@ pub fn put_report(
         ++ report_text plan.now criteria acceptances.now base.now impacts.now) }
     ensures survives { IfOk result (λ survived. survived ≡ survives criteria acceptances.now base.now impacts.now) }
 {
-    put_whole(out, plan, base)?;
-    put_health(out, plan, base)?;
+    put_whole(out, plan, criteria, base)?;
+    put_health(out, plan, criteria, base)?;
     put_impacts(out, plan, criteria, acceptances, base, impacts)?;
     let survived = put_ending(out, plan, criteria, acceptances, base, impacts)?;
     Ok(survived)

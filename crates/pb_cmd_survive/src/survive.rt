@@ -5,11 +5,13 @@ ghost use Rattle.std.specs.Io.KnownBytes.{Appends, Keeps};
 ghost use Rattle.pb_lan.specs.Plans.{IsSound};
 ghost use Rattle.pb_cmd_survive.specs.Scopes.{is_found};
 ghost use Rattle.std.specs.Prelude.{true};
-ghost use Rattle.pb_cmd_survive.specs.Survivals.{IsReport, IsLacking, IsSurviveText, status_of, criteria_of};
+ghost use Rattle.pb_cmd_survive.specs.Impacts.{IsStanding};
+ghost use Rattle.pb_cmd_survive.specs.Reports.{downs_line, names_text};
+ghost use Rattle.pb_cmd_survive.specs.Survivals.{IsReport, IsReportOn, IsLacking, IsSurviveText, end_of, criteria_of};
 ghost use Rattle.pb_cmd_survive.specs.Survivals.{passes, said_text};
 
 use crate::criteria::Criteria;
-use crate::drive::Patience;
+use crate::end::SurviveEnd;
 use crate::failure::{Failure, Kinds, failures};
 use crate::impact::Impact;
 use crate::judgement::{are_current, survives};
@@ -17,6 +19,7 @@ use crate::look::{look_at, look_at_all};
 use crate::progress::FailureProgress;
 use crate::report::put_report;
 use crate::scope::{Scope, from_of, is_found, put_no_such, services_of};
+use crate::standing::{Patience, Standing, raise};
 use crate::tables::put_tables;
 use pb_accept::Acceptance;
 use pb_converge::{DriveFault, fault_of};
@@ -29,18 +32,6 @@ use std::alloc::Global;
 use std::io::Write;
 use std::thread::Threads;
 
-/// The exit status if the network survives.
-const WHOLE: u8 = 0;
-
-/// The exit status if the file is not a valid plan.
-const REFUSED: u8 = 1;
-
-/// The exit status if the plan lacks the requested service or port.
-const LACKING: u8 = 2;
-
-/// The exit status if the network does not survive.
-const PARTED: u8 = 4;
-
 /// The most events besides ticks until convergence.
 const MOST_EVENTS: u64 = 1_000_000_000;
 
@@ -51,6 +42,8 @@ pub struct Asked<'a> {
     pub kinds: Kinds,
     /// The services to analyse.
     pub scope: Scope<'a>,
+    /// The names of what is down before anything fails: links, bridges, and ports as `BRIDGE:PORT`.
+    pub downs: &'a [String],
     /// Whether the customer ports of a failed bridge count as disconnected too.
     pub own: bool,
     /// Whether harmless failures are reported too.
@@ -65,11 +58,15 @@ pub struct Asked<'a> {
     pub as_tables: bool,
 }
 
-/// Returns the exit status for a network that passes or does not.
-fn status_of(passed: bool) -> u8
-    ensures { result ≡ status_of passed }
+/// Returns how the command ends for a network that passes or does not.
+fn end_of(passed: bool) -> SurviveEnd
+    ensures { result ≡ end_of passed }
 {
-    if passed { WHOLE } else { PARTED }
+    if passed {
+        SurviveEnd::Survives
+    } else {
+        SurviveEnd::Parted
+    }
 }
 
 /// Returns what counts as disconnected and which failures are reported, by the options.
@@ -81,6 +78,7 @@ fn criteria_of(plan: &Plan, asked: &Asked<'_>) -> Criteria
         from: from_of(plan, &asked.scope),
         own: asked.own,
         all: asked.all,
+        impaired: !asked.downs.is_empty(),
     }
 }
 
@@ -98,6 +96,30 @@ fn passes(
         && are_current(plan, criteria, asked.strict, asked.accepted, base, impacts)
 }
 
+/// Appends the line of what is down before anything fails, if anything is.
+fn put_downs(out: &mut String, names: &[String]) -> Result<(), Memory>
+    ensures { OnOk result (string_bytes out.new ≡ string_bytes out.old ++ downs_line names.now) }
+{
+    if names.is_empty() {
+        return Ok(());
+    }
+    out.push_str("down:")?;
+    put_names(out, names)?;
+    out.push_str("\n")?;
+    Ok(())
+}
+
+/// Appends names, each after a space.
+fn put_names(out: &mut String, names: &[String]) -> Result<(), Memory>
+    ensures { OnOk result (string_bytes out.new ≡ string_bytes out.old ++ names_text names.now) }
+{
+    for name in names {
+        out.push_str(" ")?;
+        out.push_str(name.as_str())?;
+    }
+    Ok(())
+}
+
 /// Appends the report, or in its place the tables that accept what was found.
 fn put_said(
     out: &mut String,
@@ -113,47 +135,70 @@ fn put_said(
     if asked.as_tables {
         return put_tables(out, plan, criteria, base, impacts);
     }
+    put_downs(out, asked.downs)?;
     put_report(out, plan, criteria, asked.accepted, base, impacts)?;
     Ok(())
 }
 
-/// Analyses a plan's network with nothing down and under each failure, and appends the report. Returns the exit status.
+/// Analyses a network that is up, with nothing more down and under each failure, and appends the report. Returns how
+/// the command ends.
 fn put_looks<R: Threads + Sync, V: FailureProgress>(
+    rt: &R,
+    alloc: Global,
+    out: &mut String,
+    standing: &Standing<'_>,
+    asked: &Asked<'_>,
+    progress: &V,
+) -> Result<SurviveEnd, DriveFault>
+    requires up { IsStanding standing.now }
+    requires found { is_found standing.now.plan.now asked.now.scope ≡ true }
+    ensures { IfOk result (λ end. (text : List ℕ) × (string_bytes out.new ≡ string_bytes out.old ++ text)
+        × IsReportOn standing.now asked.now end text) }
+{
+    let plan = standing.plan;
+    let services = services_of(alloc, plan, &asked.scope)?;
+    let failures = failures(alloc, plan, asked.kinds)?;
+    let base = look_at(alloc, standing, services.as_slice(), Failure::Nothing)?;
+    let impacts = look_at_all(
+        rt,
+        alloc,
+        standing,
+        services.as_slice(),
+        failures.as_slice(),
+        progress,
+    )?;
+    let criteria = criteria_of(plan, asked);
+    let impacts = impacts.as_slice();
+    put_said(out, plan, asked, criteria, &base, impacts)?;
+    Ok(end_of(passes(plan, asked, criteria, &base, impacts)))
+}
+
+/// Brings a plan's network up, analyses it, and appends the report. Returns how the command ends. If a name of what is
+/// to be down is refused, nothing is appended.
+fn put_raised<R: Threads + Sync, V: FailureProgress>(
     rt: &R,
     alloc: Global,
     out: &mut String,
     plan: &Plan,
     asked: &Asked<'_>,
     progress: &V,
-) -> Result<u8, DriveFault>
+) -> Result<SurviveEnd, DriveFault>
     requires sound { IsSound plan.now }
     requires found { is_found plan.now asked.now.scope ≡ true }
-    ensures { IfOk result (λ status. (text : List ℕ) × (string_bytes out.new ≡ string_bytes out.old ++ text)
-        × IsReport plan.now asked.now status text) }
+    ensures { IfOk result (λ end. (text : List ℕ) × (string_bytes out.new ≡ string_bytes out.old ++ text)
+        × IsReport plan.now asked.now end text) }
 {
-    let services = services_of(alloc, plan, &asked.scope)?;
-    let failures = failures(alloc, plan, asked.kinds)?;
     let patience = Patience {
         ticks: asked.ticks,
         events: MOST_EVENTS,
     };
-    let base = look_at(alloc, plan, services.as_slice(), Failure::Nothing, patience)?;
-    let impacts = look_at_all(
-        rt,
-        alloc,
-        plan,
-        services.as_slice(),
-        failures.as_slice(),
-        patience,
-        progress,
-    )?;
-    let criteria = criteria_of(plan, asked);
-    let impacts = impacts.as_slice();
-    put_said(out, plan, asked, criteria, &base, impacts)?;
-    Ok(status_of(passes(plan, asked, criteria, &base, impacts)))
+    match raise(alloc, plan, asked.downs, patience)? {
+        Ok(standing) => put_looks(rt, alloc, out, &standing, asked, progress),
+        Err(fault) => Ok(SurviveEnd::NoDown(fault)),
+    }
 }
 
-/// Appends the report on a plan, or that it lacks the requested service or port. Returns the exit status.
+/// Appends the report on a plan, or that it lacks the requested service or port. Returns how the command ends.
 fn put_plan<R: Threads + Sync, V: FailureProgress>(
     rt: &R,
     alloc: Global,
@@ -161,19 +206,19 @@ fn put_plan<R: Threads + Sync, V: FailureProgress>(
     plan: &Plan,
     asked: &Asked<'_>,
     progress: &V,
-) -> Result<u8, DriveFault>
+) -> Result<SurviveEnd, DriveFault>
     requires { IsSound plan.now }
-    ensures { IfOk result (λ status. (text : List ℕ) × (string_bytes out.new ≡ string_bytes out.old ++ text)
-        × (IsReport plan.now asked.now status text ⊎ IsLacking plan.now asked.now status text)) }
+    ensures { IfOk result (λ end. (text : List ℕ) × (string_bytes out.new ≡ string_bytes out.old ++ text)
+        × (IsReport plan.now asked.now end text ⊎ IsLacking plan.now asked.now end text)) }
 {
     if is_found(plan, &asked.scope) {
-        return put_looks(rt, alloc, out, plan, asked, progress);
+        return put_raised(rt, alloc, out, plan, asked, progress);
     }
     put_no_such(out, &asked.scope)?;
-    Ok(LACKING)
+    Ok(SurviveEnd::Lacking)
 }
 
-/// Appends the report on a plan file, or the rule that it breaks. Returns the exit status.
+/// Appends the report on a plan file, or the rule that it breaks. Returns how the command ends.
 fn put_survive<R: Threads + Sync, V: FailureProgress>(
     rt: &R,
     alloc: Global,
@@ -181,37 +226,40 @@ fn put_survive<R: Threads + Sync, V: FailureProgress>(
     file: &[u8],
     asked: &Asked<'_>,
     progress: &V,
-) -> Result<u8, CommandFault>
-    ensures ok { IfOk result (λ status. (text : List ℕ) × (string_bytes out.new ≡ string_bytes out.old ++ text)
-        × IsSurviveText file.now asked.now status text) }
+) -> Result<SurviveEnd, CommandFault>
+    ensures ok { IfOk result (λ end. (text : List ℕ) × (string_bytes out.new ≡ string_bytes out.old ++ text)
+        × IsSurviveText file.now asked.now end text) }
     ensures kinds { IfErr result (λ e. e ≢ CommandFault.Read) }
 {
     match read_plan(alloc, file) {
         Ok((plan, _ports)) => match put_plan(rt, alloc, out, &plan, asked, progress) {
-            Ok(status) => Ok(status),
+            Ok(end) => Ok(end),
             Err(fault) => Err(fault_of(fault)),
         },
         Err(fault) => {
             put_refusal(out, &fault)?;
-            Ok(REFUSED)
+            Ok(SurviveEnd::Refused)
         }
     }
 }
 
-/// Reads a plan file, and writes a report on its network under failures, by one `write_all`. Returns the exit status.
+/// Reads a plan file, and writes a report on its network under failures, by one `write_all`. Returns how the command
+/// ends.
 ///
-/// Each single link fails, and each single bridge and each two links if `asked.kinds` has them. [`look_at`] analyses a
-/// failure, [`look_at_all`] analyses several in parallel, and [`put_report`] makes the report, which is the same each
-/// time. `progress.looked` is called after each failure, and `progress.close` once, before anything is written,
-/// whatever the result. If `asked.as_tables` is set, the report is replaced by a table `accept` in TOML for each
-/// service that each failure disconnects.
+/// What `asked.downs` names is down from the start. Each single link fails, and each single bridge and each two links
+/// if `asked.kinds` has them. [`raise`] brings the network up, [`look_at`] analyses a failure, [`look_at_all`] analyses
+/// several in parallel, and [`put_report`] makes the report, which is the same each time. `progress.looked` is called
+/// after each failure, and `progress.close` once, before anything is written, whatever the result. If
+/// `asked.as_tables` is set, the report is replaced by a table `accept` in TOML for each service that each failure
+/// disconnects.
 ///
-/// | Exit status | When | Text |
+/// | Result | When | Text |
 /// |---|---|---|
-/// | 0 | the network survives: it is healthy, and no failure does harm that is not accepted | the report |
-/// | 1 | the file is not a valid plan | `plan: N WORD`, as `check` prints it |
-/// | 2 | the plan lacks the service or port of the scope | `no such service NAME` or `no such port NAME` |
-/// | 4 | the network does not survive, or an acceptance is stale and `asked.strict` is set | the report |
+/// | `Survives` | the network is healthy, and no failure does harm that is not accepted | the report |
+/// | `Parted` | the network does not survive, or an acceptance is stale and `asked.strict` is set | the report |
+/// | `Lacking` | the plan lacks the service or port of the scope | `no such service NAME` or `no such port NAME` |
+/// | `Refused` | the file is not a valid plan | `plan: N WORD`, as `check` prints it |
+/// | `NoDown` | a name of `asked.downs` is unknown or ambiguous | none |
 ///
 /// # Errors
 ///
@@ -225,16 +273,16 @@ pub fn run_survive<R: Threads + Sync, V: FailureProgress, W: Write>(
     asked: &Asked<'_>,
     progress: &V,
     writer: &mut W,
-) -> Result<u8, CommandFault>
-    ensures ok { IfOk result (λ status. (text : List ℕ) × Appends (W.contents writer.old) (W.contents writer.new) text
-        × IsSurviveText file.now asked.now status text) }
+) -> Result<SurviveEnd, CommandFault>
+    ensures ok { IfOk result (λ end. (text : List ℕ) × Appends (W.contents writer.old) (W.contents writer.new) text
+        × IsSurviveText file.now asked.now end text) }
     ensures kinds { IfErr result (λ e. e ≢ CommandFault.Read) }
     ensures none { IfErr result (λ e. e ≢ CommandFault.Write → Keeps (W.contents writer.old) (W.contents writer.new)) }
 {
     let mut out = String::new(alloc);
     let told = put_survive(rt, alloc, &mut out, file, asked, progress);
     progress.close();
-    let status = told?;
+    let end = told?;
     write_whole(writer, out.as_bytes())?;
-    Ok(status)
+    Ok(end)
 }

@@ -337,11 +337,12 @@ fn put_surviving(out: &mut String, excused: bool) -> Result<(), Memory>
 /// Appends the last line: that the network survives, or that it is not healthy with nothing down.
 pub(crate) fn put_last(
     out: &mut String,
+    criteria: Criteria,
     base: &Impact,
     survived: bool,
     excused: bool,
 ) -> Result<(), Memory>
-    ensures { OnOk result (string_bytes out.new ≡ string_bytes out.old ++ last_line base.now survived excused) }
+    ensures { OnOk result (string_bytes out.new ≡ string_bytes out.old ++ last_line criteria base.now survived excused) }
 {
     if survived {
         return put_surviving(out, excused);
@@ -349,5 +350,5 @@ pub(crate) fn put_last(
     if is_healthy(base) {
         return Ok(());
     }
-    put_unhealthy(out, base)
+    put_unhealthy(out, criteria, base)
 }

@@ -22,6 +22,8 @@ ghost use Rattle.pb_converge.specs.Falls.{
   Judges,
 };
 
+use crate::fault::DriveFault;
+use crate::resting::fault_of;
 use pb_frame::Memory;
 use pb_lan::{End, Event, LinkPlan, Plan};
 use pb_messages::CommandFault;
@@ -128,7 +130,7 @@ fn judge(alloc: Global, plan: &Plan, name: &str, index: usize) -> Result<Option<
 /// # Errors
 ///
 /// `Steps` if the bridge has taken the plan's number of steps, `Memory` if an allocation failed.
-fn fall(net: &mut Net, plan: &Plan, end: &End) -> Result<(), CommandFault>
+fn fall(net: &mut Net, plan: &Plan, end: &End) -> Result<(), DriveFault>
     requires plan { net.old.plan ≡ plan.now }
     requires there { is_provider (port_at plan.now end.now.bridge end.now.port) ≡ true }
     ensures plan { OnOk result (net.new.plan ≡ plan.now) }
@@ -137,8 +139,8 @@ fn fall(net: &mut Net, plan: &Plan, end: &End) -> Result<(), CommandFault>
     let (bridge, port, up) = (end.bridge, end.port, false);
     match net.step(Event::Admin { bridge, port, up }) {
         Ok(_) => Ok(()),
-        Err(NetFault::StepLimit) => Err(CommandFault::Steps),
-        Err(NetFault::Memory) => Err(CommandFault::Memory),
+        Err(NetFault::StepLimit) => Err(DriveFault::Steps),
+        Err(NetFault::Memory) => Err(DriveFault::Memory),
         Err(NetFault::NoSuch) => unreachable!(),
     }
 }
@@ -154,7 +156,7 @@ fn fall_if_named(
     plan: &Plan,
     name: &str,
     end: &End,
-) -> Result<(), CommandFault>
+) -> Result<(), DriveFault>
     requires plan { net.old.plan ≡ plan.now }
     requires there { is_provider (port_at plan.now end.now.bridge end.now.port) ≡ true }
     ensures plan { OnOk result (net.new.plan ≡ plan.now) }
@@ -192,7 +194,7 @@ fn fall_link(
     plan: &Plan,
     name: &str,
     link: &LinkPlan,
-) -> Result<(), CommandFault>
+) -> Result<(), DriveFault>
     requires plan { net.old.plan ≡ plan.now }
     requires a { is_provider (port_at plan.now link.now.a.bridge link.now.a.port) ≡ true }
     requires b { is_provider (port_at plan.now link.now.b.bridge link.now.b.port) ≡ true }
@@ -213,7 +215,7 @@ fn fall_link(
 /// # Errors
 ///
 /// `Steps` if a bridge has taken the plan's number of steps, `Memory` if an allocation failed.
-fn fall_named(alloc: Global, net: &mut Net, plan: &Plan, name: &str) -> Result<(), CommandFault>
+fn fall_named(alloc: Global, net: &mut Net, plan: &Plan, name: &str) -> Result<(), DriveFault>
     requires sound { IsSound plan.now }
     requires plan { net.old.plan ≡ plan.now }
     ensures plan { OnOk result (net.new.plan ≡ plan.now) }
@@ -235,12 +237,12 @@ fn fall_named(alloc: Global, net: &mut Net, plan: &Plan, name: &str) -> Result<(
 /// # Errors
 ///
 /// `Memory` if an allocation failed, `Steps` if a bridge had to take more steps than the plan allows.
-pub fn falls(
+pub fn disables(
     alloc: Global,
     net: &mut Net,
     plan: &Plan,
     names: &[String],
-) -> Result<Option<DownFault>, CommandFault>
+) -> Result<Option<DownFault>, DriveFault>
     requires sound { IsSound plan.now }
     requires fresh { net.old ≡ fresh plan.now }
     ensures { IfOk result (λ fault. AnswersFalls plan.now names.now fault net.new) }
@@ -252,4 +254,25 @@ pub fn falls(
         }
     }
     Ok(None)
+}
+
+/// Disables the ends of links that names disable, as [`disables`] does.
+///
+/// # Errors
+///
+/// `Memory` if an allocation failed, `Steps` if a bridge had to take more steps than the plan allows.
+pub fn falls(
+    alloc: Global,
+    net: &mut Net,
+    plan: &Plan,
+    names: &[String],
+) -> Result<Option<DownFault>, CommandFault>
+    requires sound { IsSound plan.now }
+    requires fresh { net.old ≡ fresh plan.now }
+    ensures { IfOk result (λ fault. AnswersFalls plan.now names.now fault net.new) }
+{
+    match disables(alloc, net, plan, names) {
+        Ok(fault) => Ok(fault),
+        Err(fault) => Err(fault_of(fault)),
+    }
 }

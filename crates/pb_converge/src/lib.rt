@@ -12,9 +12,9 @@ mod settling;
 mod suggesting;
 
 pub use draining::drain;
-pub use falling::{DownFault, falls};
+pub use falling::{DownFault, disables, falls};
 pub use fault::DriveFault;
-pub use nets::{fresh, shape_of};
+pub use nets::{copied, fresh, shape_of};
 pub use rest::Rest;
 pub use resting::{fault_of, put_rest, rests};
 pub use settling::{settle, stand};

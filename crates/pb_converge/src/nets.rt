@@ -23,6 +23,17 @@ pub fn fresh(alloc: Global, plan: &Plan) -> Result<Net, Memory>
     Net::new(alloc, plan.clone()?)
 }
 
+/// Returns a copy of a network: each of its places has taken the same steps, and both go on independently.
+///
+/// # Errors
+///
+/// `Memory` if an allocation failed.
+pub fn copied(net: &Net) -> Result<Net, Memory>
+    ensures { IfOk result (λ copy. copy ≡ net.now) }
+{
+    Ok(net.clone()?)
+}
+
 /// Returns the states of all ports after the steps of a record.
 ///
 /// # Errors

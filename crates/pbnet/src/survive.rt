@@ -1,19 +1,23 @@
 //! The command `survive`.
 
 use crate::accept::{AcceptEnd, acceptances_of};
+use crate::downs::refuse_down;
 use crate::formatted::{Output, head};
 use crate::looks::Looks;
-use crate::telling::tell_on;
-use crate::{contents, ended};
+use crate::telling::{WRONG_ARGUMENTS, tell_on};
+use crate::{REFUSED, contents, ended};
 use pb_accept::Acceptance;
 use pb_cli::{ReportFormat, SurviveOptions, SurviveScope};
-use pb_cmd_survive::{Asked, Kinds, Scope, run_survive};
+use pb_cmd_survive::{Asked, Kinds, Scope, SurviveEnd, run_survive};
 use pb_export::{FAILURES, SURVIVE};
 use std::fs::Files;
 use std::io::Write;
 use std::process::ExitCode;
 use std::thread::Threads;
 use std::time::Clock;
+
+/// The exit status if the network does not survive.
+const PARTED: u8 = 4;
 
 /// Returns the services that are analysed.
 fn scope_of(scope: &SurviveScope) -> Scope<'_> {
@@ -31,6 +35,10 @@ pub(crate) fn tell_survivals<R: Files + Threads + Clock + Print + Eprint + Alloc
     options: &SurviveOptions,
     is_shown: bool,
 ) -> ExitCode {
+    if !options.downs.is_empty() && options.format == ReportFormat::Json {
+        let _ = eprintln!(rt; "error: --down cannot be used with --format json");
+        return ExitCode::from(WRONG_ARGUMENTS);
+    }
     let mut out = Output::new(rt, options.format, head("survive", options.path.as_str()));
     match tell_survivals_on(rt, options, is_shown, &mut out) {
         Ok(status) => out.end(&SURVIVE, Some(&FAILURES), status),
@@ -46,6 +54,7 @@ fn asked_of<'a>(options: &'a SurviveOptions, accepted: &'a [Acceptance]) -> Aske
             pairs: options.pairs,
         },
         scope: scope_of(&options.scope),
+        downs: options.downs.as_slice(),
         own: options.own,
         all: options.all_failures || options.format == ReportFormat::Json,
         ticks: options.ticks,
@@ -59,7 +68,8 @@ fn asked_of<'a>(options: &'a SurviveOptions, accepted: &'a [Acceptance]) -> Aske
 ///
 /// # Errors
 ///
-/// The exit status 2, after a message, if the file of `--accept` is refused. Nothing was written then.
+/// The exit status 2, after a message, if the file of `--accept` or a name of `--down` is refused. Nothing was written
+/// then.
 fn tell_survivals_on<R, W: Write>(
     rt: &R,
     options: &SurviveOptions,
@@ -83,6 +93,10 @@ where
     let looks = Looks::new(rt, "survive", is_shown);
     match run_survive(rt, rt.alloc(), file.as_slice(), &asked, &looks, out) {
         Err(fault) => Ok(tell_on(out, fault)),
-        Ok(status) => Ok(ended(rt, path, file.as_slice(), status)),
+        Ok(SurviveEnd::Survives) => Ok(ExitCode::SUCCESS),
+        Ok(SurviveEnd::Parted) => Ok(ExitCode::from(PARTED)),
+        Ok(SurviveEnd::Lacking) => Ok(ExitCode::from(WRONG_ARGUMENTS)),
+        Ok(SurviveEnd::Refused) => Ok(ended(rt, path, file.as_slice(), REFUSED)),
+        Ok(SurviveEnd::NoDown(fault)) => Err(refuse_down(rt, file.as_slice(), asked.downs, fault)),
     }
 }

@@ -8,6 +8,7 @@ use crate::{REFUSED, contents, ended};
 use pb_cli::{TraceEntry, TraceOptions};
 use pb_cmd_trace::{Asked, Entry, TraceEnd, run_trace};
 use pb_export::TRACE;
+use pb_lan::Spanning;
 use pb_messages::CommandFault;
 use pb_service::read_plan;
 use std::alloc::{AllocError, Global};
@@ -47,6 +48,18 @@ fn describe_first(
         }
     }
     Ok(())
+}
+
+/// Reports that no frame gets far, if the bridges of the plan of a file run the spanning tree and have not converged.
+fn note_unsettled(rt: &(impl Eprint + AllocGlobal), file: &[u8], settle: Option<u32>) {
+    let Ok((plan, _ports)) = read_plan(rt.alloc(), file) else {
+        return;
+    };
+    if settle.is_none() && plan.spanning == Spanning::Rstp {
+        let _ = eprintln!(rt;
+            "note: the spanning tree has not converged, so ports between bridges are discarding; see --settle"
+        );
+    }
 }
 
 /// Traces frames through the network of a plan file, in the form of the options. Returns the exit status.
@@ -92,7 +105,10 @@ fn trace_on<R: Files + Eprint + AllocGlobal, W: Write>(
     };
     match run_trace(rt.alloc(), file.as_slice(), &asked, out) {
         Err(fault) => Ok(tell_on(out, fault)),
-        Ok(TraceEnd::Told) => Ok(ExitCode::SUCCESS),
+        Ok(TraceEnd::Told) => {
+            note_unsettled(rt, file.as_slice(), options.settle);
+            Ok(ExitCode::SUCCESS)
+        }
         Ok(TraceEnd::Refused) => Ok(ended(rt, path, file.as_slice(), REFUSED)),
         Ok(TraceEnd::NoDown(fault)) => Err(refuse_down(rt, file.as_slice(), asked.downs, fault)),
         Ok(TraceEnd::NoPort(index)) => Err(no_port(rt, entries.as_slice(), index)),

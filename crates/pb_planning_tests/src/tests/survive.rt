@@ -8,7 +8,7 @@ mod texts;
 
 use counted::Counted;
 use draft::{Draft, plan_file};
-use pb_cmd_survive::{Asked, Kinds, Scope, run_survive};
+use pb_cmd_survive::{Asked, DownFault, Kinds, Scope, SurviveEnd, run_survive};
 use pb_fakes::{Full, Unflushed};
 use pb_messages::CommandFault;
 use std::alloc::Global;
@@ -34,6 +34,16 @@ const BRIDGES: Kinds = Kinds {
     pairs: false,
 };
 
+/// Returns how the command ends where the program's exit status is this one.
+fn ended(status: u8) -> SurviveEnd {
+    match status {
+        0 => SurviveEnd::Survives,
+        1 => SurviveEnd::Refused,
+        2 => SurviveEnd::Lacking,
+        _ => SurviveEnd::Parted,
+    }
+}
+
 /// A network and the options, with the text and the exit status.
 #[derive(Drop)]
 struct Row<'a> {
@@ -54,7 +64,7 @@ fn says<R: Abort + Threads + Sync>(rt: &R, alloc: Global, row: &Row<'_>) -> Resu
         scope: row.scope,
         own: row.own,
         ticks: row.ticks,
-        ..ANY
+        ..any()
     };
     for _ in 0..2 {
         let mut output = Vec::new(alloc);
@@ -62,7 +72,7 @@ fn says<R: Abort + Threads + Sync>(rt: &R, alloc: Global, row: &Row<'_>) -> Resu
         let result = run_survive(rt, alloc, file.as_bytes(), &asked, &progress, &mut output);
         let text = std::str::from_utf8(output.as_slice()).unwrap_or("");
         assert_eq!(rt; text, row.text);
-        assert_eq!(rt; result, Ok(row.status));
+        assert_eq!(rt; result, Ok(ended(row.status)));
     }
     Ok(())
 }
@@ -245,25 +255,28 @@ fn what_is_lacking_is_told(rt: HostRuntime) -> Result<(), Fail> {
     Ok(())
 }
 
-/// The options for a file whose network does not matter.
-const ANY: Asked = Asked {
-    kinds: LINKS,
-    scope: Scope::All,
-    own: false,
-    all: false,
-    ticks: 200,
-    accepted: &[],
-    strict: false,
-    as_tables: false,
-};
+/// Returns the options for a file whose network does not matter.
+fn any() -> Asked<'static> {
+    Asked {
+        kinds: LINKS,
+        scope: Scope::All,
+        downs: &[],
+        own: false,
+        all: false,
+        ticks: 200,
+        accepted: &[],
+        strict: false,
+        as_tables: false,
+    }
+}
 
 #[test]
 fn a_refused_file_tells_the_rule(rt: HostRuntime) -> Result<(), Fail> {
     let alloc = rt.alloc();
     let mut output = Vec::new(alloc);
     let progress = Counted::new();
-    let result = run_survive(&rt, alloc, b"x", &ANY, &progress, &mut output);
-    assert_eq!(rt; result, Ok(1));
+    let result = run_survive(&rt, alloc, b"x", &any(), &progress, &mut output);
+    assert_eq!(rt; result, Ok(ended(1)));
     assert_eq!(rt; progress.counts(), (0, 0, 1));
     assert!(rt; output.as_slice() == b"plan: 2 toml\n".as_slice());
     Ok(())
@@ -274,11 +287,76 @@ fn a_plan_without_service_does_not_survive(rt: HostRuntime) -> Result<(), Fail> 
     let alloc = rt.alloc();
     let mut output = Vec::new(alloc);
     let progress = Counted::new();
-    let result = run_survive(&rt, alloc, b"", &ANY, &progress, &mut output);
-    assert_eq!(rt; result, Ok(4));
+    let result = run_survive(&rt, alloc, b"", &any(), &progress, &mut output);
+    assert_eq!(rt; result, Ok(ended(4)));
     assert_eq!(rt; progress.counts(), (0, 0, 1));
     assert!(rt; output.as_slice() == texts::EMPTY.as_bytes());
     Ok(())
+}
+
+/// Returns the options for the service `red` of a network in which names are down from the start.
+fn red_without<'a>(downs: &'a [String]) -> Asked<'a> {
+    Asked {
+        kinds: LINKS,
+        scope: Scope::Service("red"),
+        downs,
+        own: false,
+        all: false,
+        ticks: 200,
+        accepted: &[],
+        strict: false,
+        as_tables: false,
+    }
+}
+
+/// Checks the report on a network in which one name is down from the start, and how the command ends.
+fn says_with_down<R: Abort + Threads + Sync>(
+    rt: &R,
+    alloc: Global,
+    draft: &Draft<'_>,
+    name: &str,
+    end: SurviveEnd,
+    text: &str,
+) -> Result<(), Fail> {
+    let file = plan_file(alloc, draft)?;
+    let names = vec![in alloc; String::from_str(alloc, name)?]?;
+    let asked = red_without(names.as_slice());
+    let mut output = Vec::new(alloc);
+    let progress = Counted::new();
+    let result = run_survive(rt, alloc, file.as_bytes(), &asked, &progress, &mut output);
+    let said = std::str::from_utf8(output.as_slice()).unwrap_or("");
+    assert_eq!(rt; said, text);
+    assert_eq!(rt; result, Ok(end));
+    Ok(())
+}
+
+#[test]
+fn what_is_down_before_is_named(rt: HostRuntime) -> Result<(), Fail> {
+    let alloc = rt.alloc();
+    says_with_down(
+        &rt,
+        alloc,
+        &networks::RING,
+        "L1",
+        SurviveEnd::Parted,
+        texts::RING_WITHOUT_L1,
+    )?;
+    says_with_down(
+        &rt,
+        alloc,
+        &networks::PARALLEL,
+        "B1:1",
+        SurviveEnd::Parted,
+        texts::PARALLEL_WITHOUT_AN_END,
+    )?;
+    says_with_down(
+        &rt,
+        alloc,
+        &networks::RING,
+        "L99",
+        SurviveEnd::NoDown(DownFault::Unknown(0)),
+        "",
+    )
 }
 
 #[test]
@@ -290,12 +368,12 @@ fn each_failure_is_looked_at_once(rt: HostRuntime) -> Result<(), Fail> {
             bridges: true,
             pairs: true,
         },
-        ..ANY
+        ..any()
     };
     let mut output = Vec::new(alloc);
     let progress = Counted::new();
     let result = run_survive(&rt, alloc, file.as_bytes(), &asked, &progress, &mut output);
-    assert_eq!(rt; result, Ok(4));
+    assert_eq!(rt; result, Ok(ended(4)));
     assert_eq!(rt; progress.counts(), (27, 27, 1));
     Ok(())
 }
@@ -306,7 +384,7 @@ fn a_look_that_meets_a_fault_ends_all(rt: HostRuntime) -> Result<(), Fail> {
     let file = plan_file(alloc, &networks::BRIEF)?;
     let mut output = Vec::new(alloc);
     let progress = Counted::new();
-    let result = run_survive(&rt, alloc, file.as_bytes(), &ANY, &progress, &mut output);
+    let result = run_survive(&rt, alloc, file.as_bytes(), &any(), &progress, &mut output);
     assert_eq!(rt; result, Err(CommandFault::Steps));
     assert!(rt; output.is_empty());
     assert_eq!(rt; progress.counts(), (3, 3, 1));
@@ -318,9 +396,9 @@ fn a_failed_write_is_told(rt: HostRuntime) -> Result<(), Fail> {
     let alloc = rt.alloc();
     let progress = Counted::new();
     let mut writer = Full { room: 5 };
-    let full = run_survive(&rt, alloc, b"", &ANY, &progress, &mut writer);
+    let full = run_survive(&rt, alloc, b"", &any(), &progress, &mut writer);
     assert_eq!(rt; full, Err(CommandFault::Write));
-    let unflushed = run_survive(&rt, alloc, b"", &ANY, &progress, &mut Unflushed);
+    let unflushed = run_survive(&rt, alloc, b"", &any(), &progress, &mut Unflushed);
     assert_eq!(rt; unflushed, Err(CommandFault::Write));
     Ok(())
 }

@@ -1,20 +1,22 @@
-use Rattle.std.proofs.Common.{subst}
-use Rattle.pb_converge.specs.Drives.{HasRested}
+use Rattle.std.proofs.Common.{ap, subst, sym, ◌∙◌}
 use Rattle.pb_lan.specs.Records.{IsLawfulRecord}
 use Rattle.pb_relay.specs.Protocol.{spanning_tree}
+use Rattle.pb_cmd_survive.specs.Impacts.{IsCalm}
 use Rattle.pb_cmd_diff.proofs.ends.ends_of.Goals as goal
 
 pub returns : goal.returns
 returns c =
-    let p = c.args.patience in
-    let last = c.settle.new.net in
+    let s = c.args.standing.now in
+    let plan = s.plan.now in
+    let last = c.in_ok-net.net in
+    let planned = ap (λ n. n.plan) c.in_ok-net.ensures ∙ c.requires.up.calm_plan in
     record {
-      rest = c.in_ok-settle.field-0;
+      rest = s.rest;
       last = last;
-      calm = subst (λ n. HasRested p.ticks p.events c.in_ok-settle.field-0 n last) c.in_ok-net.ensures
-          c.in_ok-settle.ensures.ok;
-      planned = c.settle.ensures.plan;
-      lawful = subst (λ n. IsLawfulRecord spanning_tree n last.rec) c.settle.ensures.plan
-          c.in_ok-ends_in.ensures.lawful;
+      calm = subst (λ ns. IsCalm plan ns s.patience.ticks s.patience.events s.rest last) c.requires.whole
+          (subst (λ n. IsCalm plan s.names.now s.patience.ticks s.patience.events s.rest n) (sym c.in_ok-net.ensures)
+          c.requires.up.is_calm);
+      planned = planned;
+      lawful = subst (λ p. IsLawfulRecord spanning_tree p last.rec) planned c.in_ok-ends_in.ensures.lawful;
       ends_are = c.in_ok-ends_in.ensures.ends;
     }

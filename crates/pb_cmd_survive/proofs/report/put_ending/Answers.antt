@@ -15,11 +15,11 @@ returns-clause-text c =
     let totals = totals_text criteria acceptances base impacts in
     let stale = stale_text plan criteria acceptances base impacts in
     let survived = survives criteria acceptances base impacts in
-    let last = last_line base survived (any_excused criteria acceptances base impacts) in
+    let last = last_line criteria base survived (any_excused criteria acceptances base impacts) in
     c.in_ok-put_last.ensures
-    ∙ ap (λ b. string_bytes c.put_stale.new.out ++ last_line base b c.any_excused-excused.result)
+    ∙ ap (λ b. string_bytes c.put_stale.new.out ++ last_line criteria base b c.any_excused-excused.result)
     c.survives-survived.ensures
-    ∙ ap (λ b. string_bytes c.put_stale.new.out ++ last_line base survived b) c.any_excused-excused.ensures
+    ∙ ap (λ b. string_bytes c.put_stale.new.out ++ last_line criteria base survived b) c.any_excused-excused.ensures
     ∙ ap (λ z. z ++ last) c.in_ok-put_stale.ensures
     ∙ ap (λ z. (z ++ stale) ++ last) c.in_ok-put_totals.ensures
     ∙ rejoin_three (string_bytes c.args.out.now) totals stale last

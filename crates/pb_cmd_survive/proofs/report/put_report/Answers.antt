@@ -10,8 +10,8 @@ returns-clause-text c =
     let acceptances = c.args.acceptances.now in
     let base = c.args.base.now in
     let impacts = c.args.impacts.now in
-    let whole = whole_text plan base in
-    let health = health_text plan base in
+    let whole = whole_text plan criteria base in
+    let health = health_text plan criteria base in
     let told = flat_map (impact_text plan criteria acceptances base) impacts in
     let ending = ending_text plan criteria acceptances base impacts in
     c.in_ok-survived.ensures.text

@@ -1,14 +1,16 @@
 use Rattle.std.proofs.Common.{◌≡◌, ◌++◌, string_bytes, refl, ap, subst, ◌∙◌}
+use Rattle.std.specs.List.{AllZip}
 use Rattle.pb_cmd_survive.specs.Failures.{all_failures}
-use Rattle.pb_cmd_survive.specs.Impacts.{IsImpact, AreImpacts}
+use Rattle.pb_cmd_survive.specs.Impacts.{IsImpactOn}
 use Rattle.pb_cmd_survive.specs.Scopes.{services_of}
-use Rattle.pb_cmd_survive.specs.Survivals.{most_events, status_of, criteria_of, passes, said_text}
+use Rattle.pb_cmd_survive.specs.Survivals.{end_of, criteria_of, passes, said_text}
 use Rattle.pb_cmd_survive.specs.declared.failure.Failure.TheVariants.{Nothing}
 use Rattle.pb_cmd_survive.proofs.survive.put_looks.Goals as goal
 
 pub returns : goal.returns
 returns g c =
-    let plan = c.args.plan.now in
+    let s = c.args.standing.now in
+    let plan = s.plan.now in
     let asked = c.args.asked.now in
     let base = c.in_ok-base.base in
     let impacts = c.in_ok-impacts.impacts.items in
@@ -19,7 +21,7 @@ returns g c =
     ∙ c.in_ok-services.ensures in
     let failures : c.as_slice-3.result.now ≡ all_failures plan asked.kinds = c.as_slice-3.ensures.value
     ∙ c.in_ok-failures.ensures in
-    let looked = subst (λ fs. AreImpacts plan c.as_slice-2.result.now asked.ticks most_events fs impacts) failures
+    let looked = subst (λ fs. AllZip (IsImpactOn s c.as_slice-2.result.now) fs impacts) failures
     c.in_ok-impacts.ensures in
     let told = c.as_slice-impacts.result.now in
     let text : string_bytes c.put_said.new.out ≡ string_bytes c.args.out.now
@@ -32,13 +34,11 @@ returns g c =
       said_text plan asked criteria base impacts,
       text,
       record {
-        found = c.requires.found;
         base = base;
-        is_base = subst (λ ns. IsImpact plan ns asked.ticks most_events Nothing base) services c.in_ok-base.ensures;
+        is_base = subst (λ ns. IsImpactOn s ns Nothing base) services c.in_ok-base.ensures;
         impacts = impacts;
-        are_impacts = subst (λ ns. AreImpacts plan ns asked.ticks most_events (all_failures plan asked.kinds)
-            impacts) services' looked;
+        are_impacts = subst (λ ns. AllZip (IsImpactOn s ns) (all_failures plan asked.kinds) impacts) services' looked;
         text_is = refl;
-        status_is = c.status_of.ensures ∙ ap status_of passed;
+        end_is = c.end_of.ensures ∙ ap end_of passed;
       },
     )

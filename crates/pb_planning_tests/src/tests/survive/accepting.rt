@@ -4,7 +4,7 @@
 
 use super::counted::Counted;
 use super::draft::{Draft, Stub, Wire, plan_file};
-use super::{ANY, BRIDGES, LINKS, PAIRS};
+use super::{BRIDGES, LINKS, PAIRS, any, ended};
 use pb_accept::{AcceptFault, Acceptance, NamedFailure, Part, read_accept_file, read_acceptances};
 use pb_cmd_survive::{Asked, Kinds, Scope, run_survive};
 use pb_frame::Text;
@@ -80,14 +80,14 @@ fn says<R: Abort + Threads + Sync>(rt: &R, alloc: Global, row: &Row<'_>) -> Resu
         strict: row.strict,
         as_tables: row.as_tables,
         all: row.all,
-        ..ANY
+        ..any()
     };
     let mut output = Vec::new(alloc);
     let progress = Counted::new();
     let result = run_survive(rt, alloc, file.as_bytes(), &asked, &progress, &mut output);
     let text = std::str::from_utf8(output.as_slice()).unwrap_or("");
     assert_eq!(rt; text, row.text);
-    assert_eq!(rt; result, Ok(row.status));
+    assert_eq!(rt; result, Ok(ended(row.status)));
     Ok(())
 }
 

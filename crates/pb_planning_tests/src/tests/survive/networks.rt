@@ -176,7 +176,7 @@ pub(super) const SHARED: Draft = Draft {
 
 /// A ring of three whose places may take enough steps to converge once, but not twice.
 pub(super) const BRIEF: Draft = Draft {
-    network: "spanning = \"rstp\"\nsteps = 35",
+    network: "spanning = \"rstp\"\nsteps = 163",
     bridges: 3,
     wires: &[
         Wire((1, 1), (2, 1), ""),

@@ -289,3 +289,37 @@ nothing down: states given forest yes\n\
 not healthy with nothing down: no service\n\
 checked 0 links\n\
 not healthy with nothing down: no service\n";
+
+/// A ring without a link: no other link replaces another.
+pub(super) const RING_WITHOUT_L1: &str = "\
+down: L1\n\
+nothing else down: settled ticks 3 forest yes\n\
+\x20 service red: C1 C2 C3 C4 C5 C6\n\
+healthy with nothing else down\n\
+link L2 down: settled ticks 2 forest yes\n\
+\x20 service red: C1 C3 C4 C5 C6 | C2\n\
+link L3 down: settled ticks 2 forest yes\n\
+\x20 service red: C1 C4 C5 C6 | C2 C3\n\
+link L4 down: settled ticks 2 forest yes\n\
+\x20 service red: C1 C5 C6 | C2 C3 C4\n\
+link L5 down: settled ticks 2 forest yes\n\
+\x20 service red: C1 C6 | C2 C3 C4 C5\n\
+link L6 down: settled ticks 3 forest yes\n\
+\x20 service red: C1 | C2 C3 C4 C5 C6\n\
+checked 6 links\n\
+1 of 6 failures disconnect nothing\n\
+converges within 3 ticks\n\
+5 of 6 failures disconnect a service\n";
+
+/// Two bridges with two links, of which one has an end down.
+pub(super) const PARALLEL_WITHOUT_AN_END: &str = "\
+down: B1:1\n\
+nothing else down: settled ticks 2 forest yes\n\
+\x20 service red: C1 C2\n\
+healthy with nothing else down\n\
+link L2 down: settled ticks 2 forest yes\n\
+\x20 service red: C1 | C2\n\
+checked 2 links\n\
+1 of 2 failures disconnect nothing\n\
+converges within 2 ticks\n\
+1 of 2 failures disconnect a service\n";

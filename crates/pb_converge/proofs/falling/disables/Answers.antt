@@ -2,7 +2,7 @@ use Rattle.std.proofs.Common.{map, subst}
 use Rattle.pb_converge.proofs.FallLemmas.{refused_at, fallen_more}
 use Rattle.pb_converge.specs.Drives.{HaveDone}
 use Rattle.pb_converge.specs.Falls.{IsClear, all_down, set_down}
-use Rattle.pb_converge.proofs.falling.falls.Goals as goal
+use Rattle.pb_converge.proofs.falling.disables.Goals as goal
 
 pub returns-in-Some : goal.returns-in-Some
 returns-in-Some c =
