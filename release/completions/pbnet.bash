@@ -1,4 +1,4 @@
-# Completions of pbnet for bash. scripts/manual.py made them from the help of pbnet 0.7.0.
+# Completions of pbnet for bash. scripts/manual.py made them from the help of pbnet 0.8.0.
 
 # Sets `options` to the options of the command $1, and `places` to what each of its arguments can be: words, or @file.
 # Sets `repeats` if the last argument can be repeated.
@@ -35,7 +35,7 @@ _pbnet_command()
             places=(@file)
             ;;
         survive)
-            options='--pairs --bridges --own --service --from --accept --strict --print-accept --all-failures --format --ticks -h --help'
+            options='--pairs --bridges --own --service --from --accept --strict --print-accept --all-failures --down --format --ticks -h --help'
             places=(@file)
             ;;
         diff)
@@ -81,6 +81,7 @@ _pbnet_option()
         'survive --service') follows=('') ;;
         'survive --from') follows=('') ;;
         'survive --accept') follows=(@file) ;;
+        'survive --down') follows=('') ;;
         'survive --format') follows=('text json csv') ;;
         'survive --ticks') follows=('') ;;
         'diff --service') follows=('') ;;

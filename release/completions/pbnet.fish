@@ -1,4 +1,4 @@
-# Completions of pbnet for fish. scripts/manual.py made them from the help of pbnet 0.7.0.
+# Completions of pbnet for fish. scripts/manual.py made them from the help of pbnet 0.8.0.
 
 complete -c pbnet -f
 complete -c pbnet -n __fish_use_subcommand -s h -l help -d 'Print help'
@@ -53,6 +53,7 @@ complete -c pbnet -n '__fish_seen_subcommand_from survive' -l accept -r -F -d 'A
 complete -c pbnet -n '__fish_seen_subcommand_from survive' -l strict -d 'Exit with status 4 if an acceptance is stale'
 complete -c pbnet -n '__fish_seen_subcommand_from survive' -l print-accept -d 'Print the tables [[accept]] of what was found, and no report'
 complete -c pbnet -n '__fish_seen_subcommand_from survive' -l all-failures -d 'Report every failure, also those that change nothing; JSON always does'
+complete -c pbnet -n '__fish_seen_subcommand_from survive' -l down -x -d 'First disable a link, a bridge with all of its links, or one port BRIDGE:PORT; may be repeated'
 complete -c pbnet -n '__fish_seen_subcommand_from survive' -l format -x -a 'text json csv' -d 'Format of the report; csv prints its table alone [default: text]'
 complete -c pbnet -n '__fish_seen_subcommand_from survive' -l ticks -x -d 'Wait at most N ticks for convergence [default: 200] [range: 1-1000000]'
 complete -c pbnet -n '__fish_seen_subcommand_from survive' -s h -l help -d 'Print help'
