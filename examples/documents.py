@@ -49,11 +49,11 @@ READ = {
     "forest": yes,
     "settled": yes,
     "groups": groups,
-    **dict.fromkeys("left_at goes_round_over from_ports no_room".split(), words),
+    **dict.fromkeys("left_at goes_round_over from_ports no_room downs".split(), words),
     "relayed_to": numbers,
 }
 # Groups whose key differs from their name.
-KEYS = {"from_ports": "from", "port_number": "port"}
+KEYS = {"from_ports": "from", "port_number": "port", "downs": "down"}
 READ |= {"port_number": number, "code": number, "bridge_port": number, "count": number}
 
 PLAN = rf"ok bridges (?P<bridges>\d+) links (?P<links>\d+) services (?P<services>\d+) ports (?P<ports>\d+)"
@@ -111,7 +111,8 @@ LINES = {
         *FORESTS, *ENDS,
     ],
     "survive": [
-        ("nothing_down", rf"nothing down: {REST}", {}),
+        ("", r"down:(?P<downs>(?: \S+)+)", {}),
+        ("nothing_down", rf"nothing (?:else )?down: {REST}", {}),
         *[("failures", rf"{lead}{what} down: {REST}", besides)
             for lead, besides in (("", {}), ("accepted ", {"accepted": True}))
             for what in (rf"(?P<down>link|bridge) (?P<name>{NAME})", rf"(?P<down>links) (?P<name>{NAME}) (?P<other>{NAME})")],
@@ -122,8 +123,8 @@ LINES = {
         ("unhealthy", rf"service (?P<service>{NAME}) has a forwarding loop", {"fault": "loop"}),
         ("unhealthy", rf"service (?P<service>{NAME}) has fewer than two ports", {"fault": "too few ports"}),
         ("unhealthy", r"bridges do not converge", {"fault": "not converged"}),
-        ("", r"healthy with nothing down", {"healthy": True}),
-        ("", r"not healthy with nothing down: (?:no service|(?P<unhealthy_services>\d+) services?)(?:, bridges do not converge)?",
+        ("", r"healthy with nothing (?:else )?down", {"healthy": True}),
+        ("", r"not healthy with nothing (?:else )?down: (?:no service|(?P<unhealthy_services>\d+) services?)(?:, bridges do not converge)?",
             {"healthy": False, "survives": False}),
         ("", r"checked (?P<checked_links>\d+) links?(?:, (?P<checked_bridges>\d+) bridges?)?(?:, (?P<checked_pairs>\d+) pairs?)?", {}),
         ("", r"(?P<part_nothing>\d+) of (?P<failures_tried>\d+) failures disconnect nothing", {}),

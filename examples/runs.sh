@@ -254,6 +254,10 @@ documents broken/ring-check.expected broken/ring-check.json check examples/broke
 status=4 with_all access.expected access-all.expected survive examples/access.toml
 status=4 documents access-all.expected access.json survive examples/access.toml
 status=4 documents access.expected access.csv survive examples/access.toml
+begin survive-down.expected
+runs out/survive-down.expected survive --down ring1 --down South --all-failures examples/access.toml
+ended 4
+status=4 documents survive-down.expected survive-down.json survive --down ring1 --down South examples/access.toml
 status=4 with_all broken/trunk-survive.expected broken/trunk-all.expected \
     survive examples/broken/trunk.toml --service blue
 status=4 documents broken/trunk-all.expected broken/trunk-survive.json \

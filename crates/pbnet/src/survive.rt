@@ -35,15 +35,16 @@ pub(crate) fn tell_survivals<R: Files + Threads + Clock + Print + Eprint + Alloc
     options: &SurviveOptions,
     is_shown: bool,
 ) -> ExitCode {
-    if !options.downs.is_empty() && options.format == ReportFormat::Json {
-        let _ = eprintln!(rt; "error: --down cannot be used with --format json");
-        return ExitCode::from(WRONG_ARGUMENTS);
-    }
     let mut out = Output::new(rt, options.format, head("survive", options.path.as_str()));
     match tell_survivals_on(rt, options, is_shown, &mut out) {
-        Ok(status) => out.end(&SURVIVE, Some(&FAILURES), status),
+        Ok(status) => end_report(out, status),
         Err(status) => status,
     }
+}
+
+/// Prints the document of the report, if its form is not text. Returns the exit status of the command.
+fn end_report<R: Print + AllocGlobal>(out: Output<'_, R>, status: ExitCode) -> ExitCode {
+    out.end(&SURVIVE, Some(&FAILURES), status)
 }
 
 /// Returns what is asked for, with these acceptances.

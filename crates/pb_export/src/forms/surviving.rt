@@ -38,7 +38,13 @@ const KEEPS_GOING: &[Choice] = choices![(" failures do not converge", Said::No),
 const NEVER: &[Choice] = choices![("", Said::No),];
 
 /// The network is healthy.
-const IS_HEALTHY: &[Choice] = choices![("with nothing down", Said::Yes),];
+const IS_HEALTHY: &[Choice] = choices![
+    ("with nothing down", Said::Yes),
+    ("with nothing else down", Said::Yes),
+];
+
+/// Nothing is down, or nothing besides what was down before.
+const REST: &[Choice] = choices![("down", Said::Nothing), ("else down", Said::Nothing),];
 
 /// The network is not healthy, and whether its bridges converge.
 const IS_UNHEALTHY: &[Choice] = choices![(", bridges do not converge", Said::No), ("", Said::No),];
@@ -62,15 +68,22 @@ const STATES: &[Choice] = choices![
     ("untried", Said::Word("untried")),
 ];
 
+/// What is down from the start.
+const DOWNS: &[Slot] = slots![("down", Kind::Words, ""),];
+
 /// The network with nothing down.
 const CALM: &[Slot] = slots![
+    ("", Kind::OneOf(REST), ": "),
     ("settled", Kind::OneOf(SETTLED), ""),
     ("ticks", Kind::Number, " forest "),
     ("forest", Kind::OneOf(YES_OR_NO), ""),
 ];
 
 /// The network with nothing down, if the plan gives the states.
-const CALM_GIVEN: &[Slot] = slots![("forest", Kind::OneOf(YES_OR_NO), ""),];
+const CALM_GIVEN: &[Slot] = slots![
+    ("", Kind::OneOf(REST), ": states given forest "),
+    ("forest", Kind::OneOf(YES_OR_NO), ""),
+];
 
 /// One link or bridge is down.
 const ONE: &[Slot] = slots![
@@ -136,6 +149,7 @@ const HEALTHY: &[Slot] = slots![("healthy", Kind::OneOf(IS_HEALTHY), ""),];
 
 /// Services are not healthy with nothing down.
 const UNHEALTHY: &[Slot] = slots![
+    ("", Kind::OneOf(REST), ": "),
     ("unhealthy_services", Kind::Number, " service"),
     ("", Kind::Plural, ""),
     ("healthy", Kind::OneOf(IS_UNHEALTHY), ""),
@@ -144,6 +158,7 @@ const UNHEALTHY: &[Slot] = slots![
 
 /// There is no service.
 const SERVICELESS: &[Slot] = slots![
+    ("", Kind::OneOf(REST), ": no service"),
     ("healthy", Kind::OneOf(IS_UNHEALTHY), ""),
     ("survives", Kind::OneOf(NEVER), ""),
 ];
@@ -240,12 +255,9 @@ const NO_PORT: &[Slot] = slots![("port", Kind::Text, ""),];
 
 /// The lines.
 const LINES: &[Template] = &[
-    template!("nothing_down", "nothing down: ", CALM),
-    template!(
-        "nothing_down",
-        "nothing down: states given forest ",
-        CALM_GIVEN
-    ),
+    template!("", "down:", DOWNS),
+    template!("nothing_down", "nothing ", CALM),
+    template!("nothing_down", "nothing ", CALM_GIVEN),
     template!("failures", "", ONE),
     template!("failures", "", ONE_GIVEN),
     template!("failures", "", TWO),
@@ -256,8 +268,8 @@ const LINES: &[Template] = &[
     template!("unhealthy", "bridges ", BRIDGES_FAULT),
     template!("unhealthy", "service ", SERVICE_FAULT),
     template!("", "healthy ", HEALTHY),
-    template!("", "not healthy with nothing down: ", UNHEALTHY),
-    template!("", "not healthy with nothing down: no service", SERVICELESS),
+    template!("", "not healthy with nothing ", UNHEALTHY),
+    template!("", "not healthy with nothing ", SERVICELESS),
     template!("", "checked ", LINKS),
     template!("", "checked ", LINKS_BRIDGES),
     template!("", "checked ", LINKS_PAIRS),
