@@ -421,6 +421,24 @@ says out/errors "error: port C1: cannot read out/wrong.pcapng: it is a pcapng fi
 hint: convert it to pcap by \`editcap -F pcap\`"
 
 # The writer of the named pipe comes late, and holds up nobody.
+# What is printed never gets into a file that took the place of a closed descriptor.
+begin "standard input and output closed"
+rm -f out/desk.pcap out/camera.pcap
+"$program" run examples/captures.toml <&- >&- 2>out/errors || wrong "the exit status is $?"
+same out/desk.pcap examples/captures/camera.pcap
+same out/camera.pcap examples/captures/none.pcap
+
+begin "standard input, output and error closed"
+rm -f out/desk.pcap
+"$program" run examples/captures.toml <&- >&- 2>&- || wrong "the exit status is $?"
+same out/desk.pcap examples/captures/camera.pcap
+
+begin "a plan file without end"
+runs out/endless check /dev/zero
+ended 3
+echo "fault: read" | same out/endless -
+grep -q "more than 67108864 octets" out/errors || wrong "the reason is not told"
+
 begin "captures by standard input and by a named pipe"
 rm -f out/late.fifo
 mkfifo out/late.fifo

@@ -19,6 +19,7 @@ mod looks;
 mod noted;
 mod progress;
 mod refusal;
+mod standard;
 mod step;
 mod survive;
 mod telling;
@@ -36,6 +37,7 @@ use pb_export::{COUNTS, RUN};
 use pb_messages::CommandFault;
 use progress::{RunMonitor, Shown};
 use refusal::print_errors;
+use standard::occupy_closed;
 use std::alloc::{AllocError, Global};
 use std::fs::{File, Files};
 use std::io::{ErrorKind, IsTerminal, Read, Write};
@@ -45,14 +47,20 @@ use std::sync::{Arc, Wait};
 use std::thread::Threads;
 use std::time::Clock;
 use std::{fs, io};
-use telling::{WRONG_ARGUMENTS, tell, tell_on};
+use telling::{FAULT, WRONG_ARGUMENTS, tell, tell_on};
 use trees::tree;
 
 /// The exit status if the plan is refused.
 const REFUSED: u8 = 1;
 
+/// The most octets of a plan file.
+const MOST_OCTETS: u64 = 67_108_864;
+
 /// Runs the command of the command line. Returns the exit status.
 fn main(rt: HostRuntime) -> ExitCode {
+    if occupy_closed(&rt).is_err() {
+        return ExitCode::from(FAULT);
+    }
     let arguments = match arguments_of(&rt) {
         Ok(arguments) => arguments,
         Err(status) => return status,
@@ -90,14 +98,14 @@ fn main(rt: HostRuntime) -> ExitCode {
 ///
 /// # Errors
 ///
-/// The exit status 3, after a line `fault:`, if the file cannot be opened or read, or an allocation failed. Standard
-/// error says why it cannot be opened.
+/// The exit status 3, after a line `fault:`, if the file cannot be opened or read, has more than 67,108,864 octets, or
+/// an allocation failed. Standard error says why it cannot be opened or read.
 fn contents<R: Files + Eprint + AllocGlobal, W: Write>(
     rt: &R,
     path: &str,
     out: &mut W,
 ) -> Result<Vec<u8>, ExitCode> {
-    let mut file = match fs::open(rt, path) {
+    let file = match fs::open(rt, path) {
         Ok(file) => file,
         Err(e) if e.kind() == ErrorKind::OutOfMemory => {
             return Err(tell_on(out, CommandFault::Memory));
@@ -109,10 +117,19 @@ fn contents<R: Files + Eprint + AllocGlobal, W: Write>(
         }
     };
     let mut octets = Vec::new(rt.alloc());
-    match file.read_to_end(&mut octets) {
-        Ok(_) => Ok(octets),
+    match file.take(MOST_OCTETS + 1).read_to_end(&mut octets) {
+        Ok(_) if octets.len() as u64 <= MOST_OCTETS => Ok(octets),
+        Ok(_) => {
+            let status = tell_on(out, CommandFault::Read);
+            let _ = eprintln!(rt; "error: cannot read {path}: it has more than {MOST_OCTETS} octets");
+            Err(status)
+        }
         Err(e) if e.kind() == ErrorKind::OutOfMemory => Err(tell_on(out, CommandFault::Memory)),
-        Err(_) => Err(tell_on(out, CommandFault::Read)),
+        Err(e) => {
+            let status = tell_on(out, CommandFault::Read);
+            let _ = eprintln!(rt; "error: cannot read {path}: {e}");
+            Err(status)
+        }
     }
 }
 
