@@ -130,7 +130,7 @@ impl<R: Files<File = File> + Net> Openings for System<'_, R> {
             path: Text::from_string(kept),
             node: None,
         })?;
-        let listener = listen(self.rt, path)?;
+        let listener = listen(self.rt, self.alloc, path)?;
         if let Some(last) = self.sockets.last_mut() {
             last.node = node_at(self.rt, path);
         }

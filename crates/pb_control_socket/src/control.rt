@@ -34,20 +34,16 @@ pub struct Control {
 }
 
 impl Control {
-    /// Opens the socket at a path, with mode 600. The system sets a mode only once a socket is there: the mode is set
-    /// at once then, and peers that connected in between are disconnected.
-    ///
-    /// A file at the path is replaced only if it is a socket on which nobody listens.
+    /// Opens the socket at a path, with mode 600, as [`listen`] does.
     ///
     /// # Errors
     ///
-    /// `AddrInUse` if somebody listens on the socket at the path, or may. `AlreadyExists` if any other file is there, a
-    /// symbolic link among them. Any other error is the system's. No socket of ours remains after an error.
+    /// Those of [`listen`].
     pub fn open<R: Files + Net>(rt: &R, alloc: Global, path: &str) -> io::Result<Control>
         ensures { IfOk result (λ control. path_of control ≡ path.now) }
     {
         let kept = String::from_str(alloc, path)?;
-        let listener = listen(rt, path)?;
+        let listener = listen(rt, alloc, path)?;
         Ok(Control {
             alloc,
             listener,
