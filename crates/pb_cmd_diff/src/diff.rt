@@ -91,7 +91,8 @@ fn put_effects(
     Ok(end_of(worsens(base, effects)))
 }
 
-/// Compares two networks with nothing down and under each failure, and appends the report. Returns how the command ends.
+/// Compares two networks with nothing down and under each failure, and appends the report. Returns how the command
+/// ends.
 fn put_looks<R: Threads + Sync, V: FailureProgress>(
     rt: &R,
     alloc: Global,

@@ -132,8 +132,8 @@ fn ends_in(alloc: Global, net: Net, plan: &Plan) -> Result<Vec<LinkEnds>, Memory
 pub fn ends_of(alloc: Global, standing: &Standing<'_>) -> Result<Vec<LinkEnds>, Memory>
     requires up { IsStanding standing.now }
     requires whole { standing.now.names.now ≡ [] }
-    ensures { IfOk result (λ ends. AreEnds standing.now.plan.now standing.now.patience.ticks standing.now.patience.events
-        ends.items) }
+    ensures { IfOk result (λ ends. AreEnds standing.now.plan.now standing.now.patience.ticks
+        standing.now.patience.events ends.items) }
 {
     let net = copied(&standing.calm)?;
     Ok(ends_in(alloc, net, standing.plan)?)

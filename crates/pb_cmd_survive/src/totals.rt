@@ -342,7 +342,8 @@ pub(crate) fn put_last(
     survived: bool,
     excused: bool,
 ) -> Result<(), Memory>
-    ensures { OnOk result (string_bytes out.new ≡ string_bytes out.old ++ last_line criteria base.now survived excused) }
+    ensures { OnOk result (string_bytes out.new
+        ≡ string_bytes out.old ++ last_line criteria base.now survived excused) }
 {
     if survived {
         return put_surviving(out, excused);

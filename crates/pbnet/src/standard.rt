@@ -30,8 +30,8 @@ fn occupy<R: Files<File = File>>(rt: &R, writes: bool) -> io::Result<()> {
     Ok(())
 }
 
-/// Opens the null device in place of each of standard input, output and error that is closed. The files and sockets that
-/// are opened later then have other descriptors: nothing that is printed gets into them.
+/// Opens the null device in place of each of standard input, output and error that is closed. The files and sockets
+/// that are opened later then have other descriptors: nothing that is printed gets into them.
 ///
 /// # Errors
 ///
