@@ -121,7 +121,6 @@ impl Bridge {
     }
 
     /// Receives an item as [`Bridge::receive`] does, and returns the step if steps are only counted.
-    #[inline(always)]
     fn admit(&mut self, port: u8, item: Item) -> Result<Option<Step>, (BridgeFault, Item)>
         requires { is_used (port_at self.old.plan self.old.number port) ≡ true }
         ensures ok { IfOk result (λ given. HasTaken self.old port item given self.new) }
