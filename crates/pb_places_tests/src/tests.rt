@@ -1,5 +1,6 @@
 //! Runs with ample memory, a file for each library. Each ends by itself, whatever the schedule.
 
+mod floor;
 mod link;
 mod ring;
 mod work;

@@ -258,6 +258,10 @@ impl<G: RunProgress> Gate for Steering<'_, G> {
         self.gate.pass(place, turn)
     }
 
+    fn lets_sleep(&self, place: Place) -> bool {
+        place != Place::Bridge(1) && self.gate.lets_sleep(place)
+    }
+
     fn is_open(&self) -> bool {
         self.open.load(Ordering::SeqCst) != 0
     }

@@ -23,13 +23,20 @@ pub struct Wish {
 
 /// A gate that each worker passes before each of its turns.
 pub trait Gate: Sync {
-    /// Returns whether the worker of a place takes the turn of this number. Its first turn has number 0.
+    /// Returns whether the worker of a place takes the turn of this number. Its first turn has number 0. A worker that
+    /// slept leaves out the numbers of the turns that it would have taken meanwhile.
     fn pass(&self, place: Place, turn: u64) -> Go;
 
     /// Returns the next wish for a place, if there is one. The worker fulfils it in place of its next turn, and asks
     /// again. The place's clock has ticked `now` times. A wish is returned once.
     fn wish(&self, _place: Place, _now: u32) -> Option<Wish> {
         None
+    }
+
+    /// Checks whether the worker of a place may sleep for up to 50 milliseconds while nothing is to do. It wakes when a
+    /// place beside it takes a step, and when its clock ticks. Otherwise it passes the gate at least twice a millisecond.
+    fn lets_sleep(&self, _place: Place) -> bool {
+        false
     }
 
     /// Checks whether frames may enter at customer ports, once their clocks have ticked as often as they are held back.

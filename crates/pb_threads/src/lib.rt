@@ -1,10 +1,11 @@
 //! Workers: each owns one place and takes turns in a thread of its own, over pb_lan and pb_rstp.
 //!
 //! `run_all` starts them, joins them and returns the places. What holds of a place at the start and between turns holds
-//! of the place that comes back. Workers share counters and nothing else here: the rings between places belong to the
-//! places. Begin reading at `run_all` and `take_turns`.
+//! of the place that comes back. Workers share counters and bells, which wake those that sleep: the rings between places
+//! belong to the places. Begin reading at `run_all` and `take_turns`.
 #![tactic(auto)]
 
+mod bells;
 mod gate;
 mod share;
 mod threads;

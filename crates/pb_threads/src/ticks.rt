@@ -64,6 +64,17 @@ impl Ticks {
         moment
     }
 
+    /// Returns the milliseconds until the next tick, at most `most`. 0 if a tick is due, or the clock ticks by turns.
+    pub(crate) fn until_tick<R: Clock>(&self, rt: &R, most: u64) -> u64 {
+        if self.limits.tick_ms > 0 {
+            return match millis(rt) {
+                Some(now) => self.due.saturating_sub(now).min(most),
+                None => 0,
+            };
+        }
+        if self.limits.tick_every > 0 { 0 } else { most }
+    }
+
     /// Returns the moment after the last turn.
     pub(crate) fn last(&self) -> Moment {
         self.moment(false)

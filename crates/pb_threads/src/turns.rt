@@ -42,6 +42,8 @@ pub struct Turn {
     pub fewer: u64,
     /// The number of copies of a frame that were lost because a queue was full.
     pub refused: u64,
+    /// The local port whose ring an item entered or left, or 0 if the place has no local ports or none did.
+    pub port: u8,
     /// Whether the view of the place's ports may have changed.
     pub has_stirred: bool,
 }
@@ -53,6 +55,7 @@ impl Turn {
         more: 0,
         fewer: 0,
         refused: 0,
+        port: 0,
         has_stirred: false,
     };
 }
@@ -89,6 +92,11 @@ pub trait Work: Drop {
     fn shown(&self, port: u8) -> Option<PortView>
         ensures { result ≡ shown_of self.now port };
 
+    /// Checks whether only a place beside this one, or its clock, can give it something to do.
+    fn may_sleep(&self) -> bool {
+        true
+    }
+
     /// Takes a turn: a tick if the clock ticks at this moment, and at most one step more.
     fn turn(&mut self, moment: Moment) -> Turn
         requires { fits self.old }
@@ -111,14 +119,37 @@ pub trait Work: Drop {
         ensures fits { fits self.new };
 }
 
-/// Yields the processor, and sleeps up to half a millisecond after 64 idle turns in a row.
-fn rest<R: Clock>(rt: &R, idle: u32) {
+/// The longest sleep, in milliseconds.
+const LONGEST: u64 = 50;
+
+/// The number of turns that a worker would take in a millisecond if it did not sleep longer than it has to.
+const TURNS: u64 = 2;
+
+/// Yields the processor after one of the first 64 idle turns in a row. Then sleeps: if the place and the gate allow it,
+/// until a bell rings or the clock ticks, else for half a millisecond. Returns the number of turns that pass meanwhile.
+fn rest<T: Work, G: Gate, R: Wait + Clock>(
+    rt: &R,
+    owned: &T,
+    gate: &G,
+    words: &Words,
+    ticks: &Ticks,
+    idle: u32,
+) -> u64 {
     if idle < 64 {
         thread::yield_now();
-        return;
+        return 0;
+    }
+    let place = owned.place();
+    if gate.lets_sleep(place) && owned.may_sleep() {
+        let millis = ticks.until_tick(rt, LONGEST);
+        if millis > 0 {
+            let has_slept = words.bells.doze(rt, place, Duration::from_millis(millis));
+            return if has_slept { millis.saturating_mul(TURNS) } else { 0 };
+        }
     }
     let micros = (u64::from(idle) - 60).min(500);
     thread::sleep(rt, Duration::from_micros(micros));
+    0
 }
 
 /// Checks whether the worker ends before its next turn. If the gate stops it, the others end too.
@@ -175,7 +206,7 @@ fn show_ports<T: Work, G: Gate>(owned: &T, gate: &G, place: Place) {
 }
 
 /// Takes turn after turn, at most `turns`, and returns the reason why there are no more.
-fn take_turns<T: Work, G: Gate, R: Clock>(
+fn take_turns<T: Work, G: Gate, R: Wait + Clock>(
     rt: &R,
     owned: &mut T,
     gate: &G,
@@ -189,8 +220,12 @@ fn take_turns<T: Work, G: Gate, R: Clock>(
 {
     let place = owned.place();
     let (mut idle, mut share) = (0u32, Share::new());
+    let mut next = 0u64;
     show_ports(owned, gate, place);
     for turn in 0..turns {
+        if turn < next {
+            continue;
+        }
         if is_ended(gate, words, place, turn) {
             return Finish::Told;
         }
@@ -207,10 +242,13 @@ fn take_turns<T: Work, G: Gate, R: Clock>(
         }
         idle = match turned.status {
             TurnStatus::Idle => {
-                rest(rt, idle);
+                next = turn.saturating_add(rest(rt, owned, gate, words, ticks, idle));
                 idle.saturating_add(1)
             }
-            _ => 0,
+            _ => {
+                words.bells.ring_beside(place, turned.port);
+                0
+            }
         };
     }
     Finish::Limit

@@ -118,6 +118,7 @@ fn received(is_marked: bool, outcome: &Outcome) -> Turn {
         more: if is_marked { queued } else { 0 },
         fewer: u64::from(is_marked),
         refused,
+        port: 0,
         has_stirred: matches!(outcome, Outcome::Heard),
     }
 }
@@ -272,7 +273,7 @@ impl<W: Wiring> BridgeWorker<W> {
             let served = self.serve(port);
             if served.status != TurnStatus::Idle {
                 self.next = place.wrapping_add(1);
-                return served;
+                return Turn { port, ..served };
             }
         }
         turn(Ok(false), 0, 0)

@@ -204,6 +204,12 @@ impl<W: Wiring, P: Port> Work for CustomerWorker<W, P> {
         None
     }
 
+    fn may_sleep(&self) -> bool {
+        self.access.book.last != Last::More
+            && self.access.offered.is_none()
+            && self.port.unsent().is_empty()
+    }
+
     fn turn(&mut self, moment: Moment) -> Turn {
         let stepped = self.step(moment.is_open);
         if !self.is_to_write(stepped.status) {

@@ -110,6 +110,10 @@ impl<R: Clock + Eprint + Sync> Gate for RunMonitor<'_, R> {
         }
         Go::Go
     }
+
+    fn lets_sleep(&self, _place: Place) -> bool {
+        true
+    }
 }
 
 impl<R: Clock + Eprint + Sync> RunProgress for RunMonitor<'_, R> {

@@ -2,6 +2,7 @@
 
 ghost use Rattle.std.specs.Prelude.{◌==◌, Some, None, if◌then◌else◌};
 
+use super::floor::plan;
 use pb_lan::{Limits, Place, PortState};
 use pb_threads::{
     Finish, Gate, Go, Moment, Places, PortView, Turn, TurnStatus, Wish, Work, Worked, run_all,
@@ -68,6 +69,7 @@ impl Work for Desk {
             more: 0,
             fewer,
             refused: 2,
+            port: 1,
             has_stirred: moment.is_tick,
         }
     }
@@ -172,7 +174,7 @@ fn all_workers_run_at_once_and_end_when_nothing_is_left(rt: HostRuntime) -> Resu
         hold: 0,
     };
     let places = office(rt.alloc(), 20)?;
-    let Worked { places, verdict } = run_all(&rt, rt.alloc(), places, &gate, limits, 120);
+    let Worked { places, verdict } = run_all(&rt, rt.alloc(), &plan(rt.alloc())?, places, &gate, limits, 120);
     assert!(rt; verdict.is_ok());
     assert_eq!(rt; gate.here.load(Ordering::SeqCst), 6);
     for desk in together(places)? {
@@ -203,7 +205,7 @@ fn a_worker_takes_so_many_turns_at_most(rt: HostRuntime) -> Result<(), Fail> {
         hold: 0,
     };
     let places = office(rt.alloc(), 20)?;
-    let Worked { places, verdict } = run_all(&rt, rt.alloc(), places, &Open, limits, 121);
+    let Worked { places, verdict } = run_all(&rt, rt.alloc(), &plan(rt.alloc())?, places, &Open, limits, 121);
     assert!(rt; verdict.is_ok());
     let mut is_limit = false;
     for desk in together(places)? {
@@ -224,7 +226,7 @@ fn frames_may_enter_after_so_many_ticks(rt: HostRuntime) -> Result<(), Fail> {
         hold: 2,
     };
     let places = office(rt.alloc(), 20)?;
-    let Worked { places, verdict } = run_all(&rt, rt.alloc(), places, &Open, limits, 121);
+    let Worked { places, verdict } = run_all(&rt, rt.alloc(), &plan(rt.alloc())?, places, &Open, limits, 121);
     assert!(rt; verdict.is_ok());
     for desk in together(places)? {
         assert_eq!(rt; desk.opened, desk.turns.saturating_sub(6));
@@ -241,7 +243,7 @@ fn a_clock_by_time_ticks_whatever_the_turns(rt: HostRuntime) -> Result<(), Fail>
         hold: 0,
     };
     let places = office(rt.alloc(), 0)?;
-    let Worked { places, verdict } = run_all(&rt, rt.alloc(), places, &Open, limits, 1);
+    let Worked { places, verdict } = run_all(&rt, rt.alloc(), &plan(rt.alloc())?, places, &Open, limits, 1);
     assert!(rt; verdict.is_ok());
     let mut has_ticked = false;
     for desk in together(places)? {
@@ -275,6 +277,7 @@ fn a_gate_stops_the_workers(rt: HostRuntime) -> Result<(), Fail> {
         let Worked { places, verdict } = run_all(
             &rt,
             rt.alloc(),
+            &plan(rt.alloc())?,
             places,
             &StopAt(turns),
             limits,
@@ -334,7 +337,7 @@ fn wishes_take_the_place_of_turns(rt: HostRuntime) -> Result<(), Fail> {
         shown: AtomicU64::new(0),
     };
     let places = office(rt.alloc(), 20)?;
-    let Worked { places, verdict } = run_all(&rt, rt.alloc(), places, &gate, limits, 121);
+    let Worked { places, verdict } = run_all(&rt, rt.alloc(), &plan(rt.alloc())?, places, &gate, limits, 121);
     assert!(rt; verdict.is_ok());
     let (mut wishes, mut turns, mut ticks) = (0u64, 0u64, 0u64);
     for desk in together(places)? {
@@ -376,10 +379,85 @@ fn a_gate_holds_frames_back(rt: HostRuntime) -> Result<(), Fail> {
         hold: 0,
     };
     let places = office(rt.alloc(), 20)?;
-    let Worked { places, verdict } = run_all(&rt, rt.alloc(), places, &Shut, limits, 121);
+    let Worked { places, verdict } = run_all(&rt, rt.alloc(), &plan(rt.alloc())?, places, &Shut, limits, 121);
     assert!(rt; verdict.is_ok());
     for desk in together(places)? {
         assert!(rt; desk.opened == 0 && desk.turns <= 12);
     }
+    Ok(())
+}
+
+/// A gate that lets workers go on, and sleep.
+#[derive(Clone, Copy)]
+struct Quiet;
+
+impl Gate for Quiet {
+    fn pass(&self, _place: Place, _turn: u64) -> Go {
+        Go::Go
+    }
+
+    fn lets_sleep(&self, _place: Place) -> bool {
+        true
+    }
+}
+
+/// Checks that workers end as soon as nothing is left, though some have nothing to do from the start and sleep, with and
+/// without a clock.
+#[test]
+fn workers_that_sleep_end_with_the_others(rt: HostRuntime) -> Result<(), Fail> {
+    for tick_ms in [0, 2u64] {
+        let limits = Limits {
+            turns: 1_000_000_000,
+            tick_every: 0,
+            tick_ms,
+            hold: 0,
+        };
+        let mut places = office(rt.alloc(), 0)?;
+        if let Some(desk) = places.bridges.last_mut() {
+            desk.jobs = 100_000;
+        }
+        let Worked { places, verdict } = run_all(
+            &rt,
+            rt.alloc(),
+            &plan(rt.alloc())?,
+            places,
+            &Quiet,
+            limits,
+            100_000,
+        );
+        assert!(rt; verdict.is_ok());
+        for desk in together(places)? {
+            assert!(rt; desk.jobs == 0 && desk.finish == Some(Finish::Told));
+        }
+    }
+    Ok(())
+}
+
+/// Checks that the turns that pass while a worker sleeps count.
+#[test]
+fn a_worker_that_sleeps_comes_to_its_last_turn(rt: HostRuntime) -> Result<(), Fail> {
+    let limits = Limits {
+        turns: 400,
+        tick_every: 0,
+        tick_ms: 0,
+        hold: 0,
+    };
+    let places = office(rt.alloc(), 0)?;
+    let Worked { places, verdict } = run_all(
+        &rt,
+        rt.alloc(),
+        &plan(rt.alloc())?,
+        places,
+        &Quiet,
+        limits,
+        1,
+    );
+    assert!(rt; verdict.is_ok());
+    let mut is_limit = false;
+    for desk in together(places)? {
+        assert!(rt; desk.turns <= 400);
+        is_limit = is_limit || (desk.finish == Some(Finish::Limit) && desk.turns < 100);
+    }
+    assert!(rt; is_limit);
     Ok(())
 }

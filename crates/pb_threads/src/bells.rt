@@ -1,0 +1,174 @@
+//! What wakes workers that sleep. No contract speaks of it: a wake that is missed is a delay, and ends nothing.
+
+use pb_lan::{Place, Plan};
+use std::alloc::{AllocError, Global};
+use std::sync::Wait;
+use std::sync::atomic::{AtomicU64, Ordering};
+use std::time::Duration;
+
+/// The state of a worker for which there may be something to do.
+const AWAKE: u64 = 0;
+
+/// The state of a worker that found nothing to do. It sleeps if it then finds nothing again.
+const DROWSY: u64 = 1;
+
+/// The number of local ports of a bridge.
+const PORTS: usize = 16;
+
+/// The index of no worker.
+const NOBODY: usize = usize::MAX;
+
+/// The bell of one worker.
+#[derive(Drop)]
+struct Bell {
+    state: AtomicU64,
+}
+
+impl Bell {
+    /// Sleeps until the bell rings, at most this long, if the worker is drowsy. Makes it drowsy if it is awake. Returns
+    /// whether it slept and no bell rang.
+    fn doze<R: Wait>(&self, rt: &R, time: Duration) -> bool {
+        if self.state.load(Ordering::SeqCst) != DROWSY {
+            self.state.store(DROWSY, Ordering::SeqCst);
+            return false;
+        }
+        self.state.park_timeout(rt, DROWSY as u32, time);
+        self.state.load(Ordering::SeqCst) == DROWSY
+    }
+
+    /// Wakes the worker, if it sleeps or is drowsy.
+    fn ring(&self) {
+        if self.state.load(Ordering::SeqCst) == DROWSY
+            && self.state.swap(AWAKE, Ordering::SeqCst) == DROWSY
+        {
+            self.state.wake_one();
+        }
+    }
+}
+
+/// The bells of the workers of a plan: first those of the customer ports, then those of the lanes and of the bridges.
+#[derive(Drop)]
+pub(crate) struct Bells {
+    bells: Vec<Bell>,
+    /// The number of customer ports.
+    customers: usize,
+    /// The number of lanes.
+    lanes: usize,
+    /// The indices of the workers beside each customer port, each lane, and each local port of each bridge.
+    beside: Vec<[usize; 2]>,
+}
+
+impl Bells {
+    /// Returns the bells of a plan's workers, which are awake.
+    ///
+    /// # Errors
+    ///
+    /// `AllocError` if an allocation failed.
+    pub(crate) fn new(alloc: Global, plan: &Plan) -> Result<Bells, AllocError> {
+        let (customers, lanes) = (plan.customers.len(), plan.links.len().wrapping_mul(2));
+        let (places, bridges) = (customers.wrapping_add(lanes), plan.bridges.len());
+        let mut bells = Vec::new(alloc);
+        for _ in 0..places.wrapping_add(bridges) {
+            bells.push(Bell {
+                state: AtomicU64::new(AWAKE),
+            })?;
+        }
+        let mut beside = Vec::new(alloc);
+        for _ in 0..places.wrapping_add(bridges.wrapping_mul(PORTS)) {
+            beside.push([NOBODY, NOBODY])?;
+        }
+        let mut bells = Bells {
+            bells,
+            customers,
+            lanes,
+            beside,
+        };
+        bells.join_customers(plan);
+        bells.join_links(plan);
+        Ok(bells)
+    }
+
+    /// Notes for each customer port its bridge, and for the bridge's local port the customer port.
+    fn join_customers(&mut self, plan: &Plan) {
+        for (index, customer) in plan.customers.as_slice().iter().enumerate() {
+            let bridge = self.worker(Place::Bridge(customer.bridge));
+            self.set_beside(index, bridge, NOBODY);
+            let at = self.row(Place::Bridge(customer.bridge), customer.port);
+            self.set_beside(at, index, NOBODY);
+        }
+    }
+
+    /// Notes for the two lanes of each link its bridges, and for the local ports at its ends the lanes.
+    fn join_links(&mut self, plan: &Plan) {
+        for (index, link) in plan.links.as_slice().iter().enumerate() {
+            let away = self.customers.wrapping_add(index.wrapping_mul(2));
+            let back = away.wrapping_add(1);
+            let a = self.worker(Place::Bridge(link.a.bridge));
+            let b = self.worker(Place::Bridge(link.b.bridge));
+            self.set_beside(away, a, b);
+            self.set_beside(back, a, b);
+            let at = self.row(Place::Bridge(link.a.bridge), link.a.port);
+            self.set_beside(at, away, back);
+            let at = self.row(Place::Bridge(link.b.bridge), link.b.port);
+            self.set_beside(at, away, back);
+        }
+    }
+
+    /// Notes the workers beside a customer port, a lane, or a local port of a bridge.
+    fn set_beside(&mut self, row: usize, first: usize, second: usize) {
+        if let Some(workers) = self.beside.get_mut(row) {
+            *workers = [first, second];
+        }
+    }
+
+    /// Returns the index of a place's worker.
+    fn worker(&self, place: Place) -> usize {
+        match place {
+            Place::Customer(number) => usize::from(number).wrapping_sub(1),
+            Place::Lane(number) => self.customers.wrapping_add(usize::from(number).wrapping_sub(1)),
+            Place::Bridge(number) => self
+                .customers
+                .wrapping_add(self.lanes)
+                .wrapping_add(usize::from(number).wrapping_sub(1)),
+        }
+    }
+
+    /// Returns the index in `beside` of a customer port, a lane, or a local port of a bridge.
+    fn row(&self, place: Place, port: u8) -> usize {
+        match place {
+            Place::Customer(_) | Place::Lane(_) => self.worker(place),
+            Place::Bridge(number) => self
+                .customers
+                .wrapping_add(self.lanes)
+                .wrapping_add(usize::from(number).wrapping_sub(1).wrapping_mul(PORTS))
+                .wrapping_add(usize::from(port).wrapping_sub(1)),
+        }
+    }
+
+    /// Sleeps until a place's bell rings, at most this long, if its worker is drowsy, and makes it drowsy if it is awake.
+    /// Returns whether it slept and no bell rang.
+    pub(crate) fn doze<R: Wait>(&self, rt: &R, place: Place, time: Duration) -> bool {
+        match self.bells.get(self.worker(place)) {
+            Some(bell) => bell.doze(rt, time),
+            None => false,
+        }
+    }
+
+    /// Wakes the workers beside a customer port, a lane, or a local port of a bridge.
+    pub(crate) fn ring_beside(&self, place: Place, port: u8) {
+        if let Some(workers) = self.beside.get(self.row(place, port)) {
+            for worker in workers {
+                if let Some(bell) = self.bells.get(*worker) {
+                    bell.ring();
+                }
+            }
+        }
+    }
+
+    /// Wakes all workers.
+    pub(crate) fn ring_all(&self) {
+        for bell in self.bells.as_slice() {
+            bell.ring();
+        }
+    }
+}
