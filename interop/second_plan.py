@@ -108,6 +108,7 @@ KEYS = {
         ("hold", number(0, 1000000), 0),
         ("prompt", (is_truth, lambda _: True), False),
         ("queues", word(("port", "class")), "port"),
+        ("lossless", (lambda value: is_truth(value) or is_text(value), lambda value: value in (True, False, "auto")), "auto"),
     ],
     "bridge": [
         ("name", text(NAME), NONE),

@@ -18,6 +18,7 @@ const PLAN_KEYS: &str =
   hold                    Ticks before a frame enters [default: 0] [range: 0-1000000]
   prompt                  true: send a BPDU at each change; false: with the next hello [default: false]
   queues                  "port": queue counts all frames of a port; "class": each class [default: "port"]
+  lossless                true: frames of run wait for full queues; false: they are lost [default: "auto"]
 
 [[bridge]], at most 32
   name                    A name: 1 to 32 letters, digits, hyphens and underscores

@@ -67,6 +67,8 @@ further_text =
     ++ codes "#steps = 1000000\n"
     ++ codes "#turns = 1000000000\n"
     ++ codes "#tick_every = 0\n"
+    ++ codes "# What a run does at a full queue: true: frames wait; false: copies are lost; \"auto\": as true without sockets:\n"
+    ++ codes "#lossless = \"auto\"\n"
 
 -- the comment on bridges and links
 abbrev pub places_text : List ℕ

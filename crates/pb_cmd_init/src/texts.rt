@@ -53,7 +53,9 @@ const FURTHER: &str = "\
 # The most steps of a place and turns of a thread, and, in place of tick_ms, the turns of a tick:\n\
 #steps = 1000000\n\
 #turns = 1000000000\n\
-#tick_every = 0\n";
+#tick_every = 0\n\
+# What a run does at a full queue: true: frames wait; false: copies are lost; \"auto\": as true without sockets:\n\
+#lossless = \"auto\"\n";
 
 /// The comment on bridges and links.
 const PLACES: &str = "\

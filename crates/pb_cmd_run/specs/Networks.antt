@@ -1,5 +1,5 @@
 -- The output for the network of a plan file.
-use Rattle.std.specs.Prelude.{◌≡◌, ◌⊎◌, ℕ, Bool, List, [], length}
+use Rattle.std.specs.Prelude.{◌≡◌, ◌⊎◌, ℕ, Bool, true, List, [], length}
 use Rattle.std.specs.Io.KnownBytes.{Appends}
 use Rattle.std.specs.declared.option.Option.{Option}
 use Rattle.std.specs.declared.result.Result.{Result}
@@ -12,11 +12,12 @@ use Rattle.pb_lan.specs.declared.record.Record.{Record}
 use Rattle.pb_lan.specs.declared.step.Mark.{Mark}
 use Rattle.pb_relay.specs.Protocol.{spanning_tree}
 use Rattle.pb_report.specs.Refusals.{PrintsRefusal}
+use Rattle.pb_workers.specs.Lossless.{NoFullQueueRefuses}
 use Rattle.pb_workers.specs.Ports.{Frames}
 use Rattle.pb_run.specs.Runs.{TellsEnded}
 use Rattle.pb_workers.specs.declared.access.Last.{Last}
 use Rattle.pb_run.specs.declared.ended.Ended.{Ended}
-use Rattle.pb_service.specs.PlanFiles.{Tells, IsPlanOf}
+use Rattle.pb_service.specs.PlanFiles.{Tells, IsPlanOf, IsLosslessIn}
 use Rattle.pb_service.specs.declared.port_spec.PortSpec.{PortSpec}
 use Rattle.pb_cmd_run.specs.Reports.{IsRunReport}
 use Rattle.pb_cmd_run.specs.Scripted.{AreScripted}
@@ -34,12 +35,13 @@ pub record PrintsReport (strictness : Strictness) (plan : Plan) (rec : Record) (
   pub unsent_count : length unsent ≡ length plan.customers
   pub status_is : status ≡ exit_status strictness (is_whole ended (lost_text plan rec settled unsent)) told
 
--- a plan has run with its ports: the record is lawful and has the guarantees of every run, the frames that entered are
--- those that the ports had, and the report is that of the record
-pub record PrintsRan (strictness : Strictness) (plan : Plan) (specs : List PortSpec) (status : ℕ) (before after : Option (List ℕ)) : Type 0 where
+-- a plan has run with its ports: the record is lawful and has the guarantees of every run, no full queue refused a copy
+-- if the run was lossless, the frames that entered are those that the ports had, and the report is that of the record
+pub record PrintsRan (strictness : Strictness) (plan : Plan) (specs : List PortSpec) (lossless : Bool) (status : ℕ) (before after : Option (List ℕ)) : Type 0 where
   pub rec : Record
   pub lawful : IsLawfulRecord spanning_tree plan rec
   pub headline : IsFaithful plan rec
+  pub whole : lossless ≡ true → NoFullQueueRefuses rec
   pub lasts : List Last
   pub last_count : length lasts ≡ length plan.customers
   pub scripted : AreScripted specs rec.customers lasts
@@ -48,12 +50,14 @@ pub record PrintsRan (strictness : Strictness) (plan : Plan) (specs : List PortS
   pub settled : Result (Option Bool) Memory
   pub report : PrintsReport strictness plan rec ended settled lasts status before after
 
--- the plan in the file has run with the ports in the file
+-- the plan in the file has run with the ports in the file, lossless if the file says so
 pub record PrintsRunOf (strictness : Strictness) (file : List ℕ) (status : ℕ) (before after : Option (List ℕ)) : Type 0 where
   pub plan : Plan
   pub specs : List PortSpec
   pub told : Tells file (λ document. IsPlanOf document plan specs)
-  pub prints : PrintsRan strictness plan specs status before after
+  pub lossless : Bool
+  pub lossless_told : Tells file (λ document. IsLosslessIn document specs lossless)
+  pub prints : PrintsRan strictness plan specs lossless status before after
 
 -- the output for a file, with the exit status
 abbrev pub PrintsNetwork : Strictness → List ℕ → ℕ → Option (List ℕ) → Option (List ℕ) → Type 0

@@ -16,6 +16,7 @@ mod pcapng;
 mod peer;
 mod report;
 mod settings;
+mod stalls;
 mod system;
 mod telling;
 mod watched;

@@ -22,6 +22,7 @@ use crate::pcapng::show_pcapng;
 use crate::peer::remove_sockets;
 use crate::report::write_report;
 use crate::settings::RunSettings;
+use crate::stalls::show_stalls;
 use crate::watched::Watched;
 use pb_control_socket::Control;
 use pb_frame::Memory;
@@ -200,6 +201,7 @@ fn run_ports<R, G: RunProgress, W: Write, E: Write>(
     ports: Vec<Watched<SystemPort>>,
     files: &[CaptureFiles],
     limits: Limits,
+    is_lossless: bool,
     strictness: Strictness,
     lingering: Lingering<'_>,
     gate: &G,
@@ -212,7 +214,7 @@ where
     requires count { vec_len ports ≡ length plan.now.customers }
     ensures ok { IfOk result (λ status. (specs : List PortSpec) →
         map (λ w. script_at w.port) ports.items ≡ map script_in specs
-        → PrintsRan strictness plan.now specs status (W.contents writer.old) (W.contents writer.new)) }
+        → PrintsRan strictness plan.now specs is_lossless status (W.contents writer.old) (W.contents writer.new)) }
     ensures err { IfErr result (λ e. e ≡ NetworkFault.Ports → ⊥) }
     ensures none { IfErr result (λ e. e ≢ NetworkFault.Write → Keeps (W.contents writer.old) (W.contents writer.new)) }
 {
@@ -221,7 +223,7 @@ where
         let port: Held = Box::new(alloc, port)?;
         held.push(port)?;
     }
-    match run_set(rt, alloc, plan, held, gate, limits) {
+    match run_set(rt, alloc, plan, held, gate, limits, is_lossless) {
         Ok(ran) => {
             gate.close();
             let ran = lingered(rt, ran, lingering);
@@ -249,6 +251,7 @@ fn run_opened<R, G: RunProgress, W: Write, E: Write>(
     plan: &Plan,
     specs: Vec<PortSpec>,
     limits: Limits,
+    is_lossless: bool,
     strictness: Strictness,
     settings: &RunSettings<'_>,
     traffic: &Arc<Traffic, Global>,
@@ -260,8 +263,8 @@ where
     R: Files<File = File> + Net + Threads + Wait + Clock + Sync,
     requires sound { IsSound plan.now }
     requires count { vec_len specs ≡ length plan.now.customers }
-    ensures ok { IfOk result (λ status. PrintsRan strictness plan.now specs.items status (W.contents writer.old)
-        (W.contents writer.new)) }
+    ensures ok { IfOk result (λ status. PrintsRan strictness plan.now specs.items is_lossless status
+        (W.contents writer.old) (W.contents writer.new)) }
     ensures err { IfErr result (λ e. e ≡ NetworkFault.Ports → ⊥) }
     ensures none { IfErr result (λ e. e ≢ NetworkFault.Write → Keeps (W.contents writer.old) (W.contents writer.new)) }
 {
@@ -278,7 +281,18 @@ where
     } = outside;
     let files = files.as_slice();
     let ran = run_ports(
-        rt, alloc, plan, ports, files, limits, strictness, lingering, gate, writer, errors,
+        rt,
+        alloc,
+        plan,
+        ports,
+        files,
+        limits,
+        is_lossless,
+        strictness,
+        lingering,
+        gate,
+        writer,
+        errors,
     );
     remove_sockets(rt, sockets.as_slice());
     ran
@@ -288,7 +302,9 @@ where
 /// file is no plan, it writes the rule that the file breaks, as `check` does, and returns 1.
 ///
 /// Each bridge, each direction of a link and each customer port has a thread of its own. Ports lead to the files and
-/// sockets that the file names. The run keeps the limits of the file, and each worker passes the gate before each of
+/// sockets that the file names. If the file wants a lossless run, no bridge refuses a copy of a frame because a queue is
+/// full, and `errors` has a line for each service whose links form a loop at the start, since frames can wait for each
+/// other there. The run keeps the limits of the file, and each worker passes the gate before each of
 /// its turns. `traffic` counts the frames that enter and leave, the copies that are not queued and the ticks during the
 /// run.
 ///
@@ -339,14 +355,28 @@ where
                 plan,
                 ports,
                 limits,
+                is_lossless,
                 events,
             },
         ) => {
+            if is_lossless {
+                show_stalls(alloc, &plan, errors);
+            }
             let waits = waits_for(settings, &plan, limits);
             let steering = Steering::new(alloc, gate, &plan, traffic, events, waits)?;
             plug(rt, alloc, settings.control, &steering, errors)?;
             let ran = run_opened(
-                rt, alloc, &plan, ports, limits, strictness, settings, traffic, &steering, writer,
+                rt,
+                alloc,
+                &plan,
+                ports,
+                limits,
+                is_lossless,
+                strictness,
+                settings,
+                traffic,
+                &steering,
+                writer,
                 errors,
             );
             steering.unplug(rt);

@@ -11,6 +11,7 @@ mod captures;
 mod files;
 mod folder;
 mod lingering;
+mod lossless;
 mod lost;
 mod memory;
 mod openings;

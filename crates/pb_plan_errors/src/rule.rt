@@ -27,6 +27,8 @@ const STRING: &str = "a string";
 
 const FLAG: &str = "true or false";
 
+const FLAG_OR_AUTO: &str = "true, false or \"auto\"";
+
 const INTEGERS: &str = "an array of integers";
 
 const STRINGS: &str = "an array of strings";
@@ -51,7 +53,7 @@ const FAILURE: &str = "a name, and the only one of link, bridge and links";
 
 const ADDRESS: &str = "an individual address such as \"02-00-00-00-00-01\"";
 
-static NETWORK: [Rule; 10] = [
+static NETWORK: [Rule; 11] = [
     rule!("spanning", STRING, "\"fixed\" or \"rstp\""),
     rule!("ageing", INTEGER, "in 10..1000000"),
     rule!("ring", INTEGER, QUEUE),
@@ -62,6 +64,7 @@ static NETWORK: [Rule; 10] = [
     rule!("hold", INTEGER, "in 0..1000000"),
     rule!("prompt", FLAG, FLAG),
     rule!("queues", STRING, "\"port\" or \"class\""),
+    rule!("lossless", FLAG_OR_AUTO, FLAG_OR_AUTO),
 ];
 
 static BRIDGE: [Rule; 4] = [

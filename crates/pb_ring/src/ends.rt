@@ -11,14 +11,17 @@ use pb_lan::Item;
 use rtrb::{Consumer, Producer};
 use std::marker::{Brand, PhantomData};
 
-/// The wiring of a run as a type: its rings by number, whether the places between them keep their steps, and whether
-/// ports may be disabled and enabled during the run. The maker of the rings decides all three.
+/// The wiring of a run as a type: its rings by number, whether the places between them keep their steps, whether ports
+/// may be disabled and enabled during the run, and whether an item waits on its ring while a queue is full to which a
+/// bridge may copy it. The maker of the rings decides all four.
 pub trait Wiring {
     ghost rings: { List (RingName Global) };
 
     ghost keeps: { Bool };
 
     ghost sets: { Bool };
+
+    ghost waits: { Bool };
 }
 
 impl Wiring for Brand {
@@ -27,6 +30,8 @@ impl Wiring for Brand {
     ghost keeps = { false };
 
     ghost sets = { false };
+
+    ghost waits = { false };
 }
 
 /// The end of a ring through which items are sent.

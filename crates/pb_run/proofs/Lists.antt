@@ -1,5 +1,5 @@
 -- Lists that grow, and items at their indexes.
-use Rattle.std.proofs.Common.{◌≡◌, ℕ, zero, suc, ◌+◌, ◌<◌, false, List, [], ◌∷◌, ◌++◌, Some, All}
+use Rattle.std.proofs.Common.{◌≡◌, ℕ, zero, suc, ◌+◌, ◌<◌, Bool, false, List, [], ◌∷◌, ◌++◌, Some, All}
 use Rattle.std.proofs.Common.{map, length, slice_get, slice_set, slice_index_or, get_or, refl, sym, ap, ◌∙◌, subst}
 use Rattle.std.proofs.Common.{arith, length-append}
 use Rattle.std.proofs.Math.Seq.{map-set_same}
@@ -10,7 +10,6 @@ use Rattle.std.specs.declared.option.Option.{Option}
 use Rattle.std.specs.List.{AllByRecursion, list_any}
 use Rattle.pb_frame.proofs.Lists.{Some-injective, All-append as each-append}
 use Rattle.pb_frame.proofs.Things.{here_is, each_more}
-use Rattle.pb_lan.specs.Laws.{is_setting}
 use Rattle.pb_lan.specs.declared.step.Step.{Step}
 use Rattle.pb_ring.specs.Rings.{shown_at}
 
@@ -120,13 +119,11 @@ pub counted_more : {X Y : Type 0} (xs : List X) (x : X) (ys zs : List Y) (y : Y)
     → length ys ≡ length xs → length zs ≡ length (xs ++ x ∷ [])
 counted_more xs x ys zs y e same = omega (arith, ap length e, length-append ys (y ∷ []), length-append xs (x ∷ []))
 
--- a list of steps in which no port is set, and the lists of a record extended by one of them
-abbrev IsUnset : List Step → Type 0
-IsUnset steps = list_any is_setting steps ≡ false
-
-pub unset_more : (olds news : List (List Step)) (steps : List Step)
-    → AllByRecursion (λ steps. list_any is_setting steps ≡ false) olds
-    → news ≡ olds ++ steps ∷ [] → list_any is_setting steps ≡ false
-    → AllByRecursion (λ steps. list_any is_setting steps ≡ false) news
-unset_more olds news steps all grown unset = subst (AllByRecursion IsUnset) (sym grown)
-    (each-append IsUnset olds (steps ∷ []) all (unset, tt))
+-- lists of steps none of which passes a test, extended by one more such list
+pub none_more : (test : Step → Bool) (olds news : List (List Step)) (steps : List Step)
+    → AllByRecursion (λ steps. list_any test steps ≡ false) olds
+    → news ≡ olds ++ steps ∷ [] → list_any test steps ≡ false
+    → AllByRecursion (λ steps. list_any test steps ≡ false) news
+none_more test olds news steps all grown none =
+    subst (AllByRecursion (λ steps. list_any test steps ≡ false)) (sym grown)
+    (each-append (λ steps. list_any test steps ≡ false) olds (steps ∷ []) all (none, tt))

@@ -80,7 +80,7 @@ fn bridge_worker<W: Wiring>(
     number: u8,
     mode: Mode,
 ) -> Result<BridgeWorker<W>, Memory>
-    requires mode { IsModeFor W.keeps W.sets mode }
+    requires mode { IsModeFor W.keeps W.sets W.waits mode }
     requires sound { IsSound plan.now }
     requires bridge { IsNumber number (length plan.now.bridges) }
     requires there { (port : ℕ) → IsNumber port 16
@@ -107,7 +107,7 @@ fn bridge_workers<W: Wiring>(
     ends: &mut Ends<W>,
     mode: Mode,
 ) -> Result<Vec<BridgeWorker<W>>, Memory>
-    requires mode { IsModeFor W.keeps W.sets mode }
+    requires mode { IsModeFor W.keeps W.sets W.waits mode }
     requires sound { IsSound plan.now }
     requires there { (at : ℕ × ℕ) → IsNumber at.0 (length plan.now.bridges) → IsNumber at.1 16
         → HasInner ends.old.outlets.items ends.old.inlets.items at }
@@ -258,7 +258,7 @@ fn accesses_of<W: Wiring>(
 }
 
 /// Returns the places of a plan, none of which has taken a step, over rings that nothing has passed. The mode says
-/// whether they keep their steps, and whether bridges fulfil wishes.
+/// whether they keep their steps, whether bridges fulfil wishes, and whether items wait for full queues.
 ///
 /// # Errors
 ///
@@ -269,7 +269,7 @@ pub(crate) fn places_of<W: Wiring>(
     rings: Vec<Ring>,
     mode: Mode,
 ) -> Result<Built<W>, Memory>
-    requires mode { IsModeFor W.keeps W.sets mode }
+    requires mode { IsModeFor W.keeps W.sets W.waits mode }
     requires sound { IsSound plan.now }
     requires rings { AreRingsOf plan.now W.rings rings }
     ensures { IfOk result (IsBuilt plan.now) }

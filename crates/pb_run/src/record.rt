@@ -8,6 +8,7 @@ ghost use Rattle.pb_lan.specs.Laws.{is_setting};
 ghost use Rattle.pb_lan.specs.PortLists.{IsLawfulPort};
 ghost use Rattle.pb_relay.specs.Protocol.{spanning_tree};
 ghost use Rattle.pb_run.specs.Rooms.{HasRoomFor};
+ghost use Rattle.pb_workers.specs.Lossless.{refuses_when_full};
 
 use pb_frame::{Memory, Seq};
 use pb_history::{Steps, Tally};
@@ -66,6 +67,8 @@ pub(crate) fn bridge_lists<W: Wiring>(workers: Vec<BridgeWorker<W>>, mut room: G
     ensures lawful { All (λ b. IsLawfulBridge spanning_tree b.bridge.plan b.bridge.number b.bridge.steps)
         workers.items }
     ensures unset { W.sets ≡ false → AllByRecursion (λ steps. list_any is_setting steps ≡ false) result.tallies.items }
+    ensures whole { W.waits ≡ true
+        → AllByRecursion (λ steps. list_any refuses_when_full steps ≡ false) result.tallies.items }
 {
     for worker in workers {
         room.push(worker.bridge.into_steps());

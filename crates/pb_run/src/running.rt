@@ -8,6 +8,7 @@ ghost use Rattle.pb_run.specs.Rooms.{HasPartRooms, HasPlaceRooms, HasRooms};
 ghost use Rattle.pb_run.specs.Runs.{IsTrueRecord, IsRun, HasNotRun};
 ghost use Rattle.pb_run.specs.Wires.{AreRingsOf};
 ghost use Rattle.pb_run.specs.Workers.{IsBuilt, AreBack};
+ghost use Rattle.pb_workers.specs.Lossless.{NoFullQueueRefuses};
 ghost use Rattle.pb_workers.specs.Workers.{IsModeFor};
 
 use crate::build::{Built, places_of};
@@ -174,6 +175,7 @@ fn told_of<W: Wiring>(
     requires rooms { HasPlaceRooms plan.now rooms }
     ensures steps { IsTrueRecord plan.now result.counts }
     ensures unset { W.sets ≡ false → NoPortIsSet result.counts }
+    ensures whole { W.waits ≡ true → NoFullQueueRefuses result.counts }
     ensures customers { result.counts.customers ≡ map (λ d. d.place.steps) accesses.items }
     ensures bridges { result.counts.bridges ≡ map (λ b. b.bridge.steps) bridges.items }
     ensures kept { W.keeps ≡ true → result.rec ≡ result.counts }
@@ -217,6 +219,7 @@ fn run_built<W: Wiring + Send, G: Gate, R: Threads + Wait + Clock + Sync>(
     ensures run { IfOk result (λ kept. IsRun (λ b. script b) (λ b. tally b) plan.now ports kept.ran.ports
         kept.ran.counts kept.ran.last.items kept.ran.ended kept.ran.settled) }
     ensures unset { IfOk result (λ kept. W.sets ≡ false → NoPortIsSet kept.ran.counts) }
+    ensures whole { IfOk result (λ kept. W.waits ≡ true → NoFullQueueRefuses kept.ran.counts) }
     ensures rec { IfOk result (λ kept. W.keeps ≡ true → kept.rec ≡ kept.ran.counts) }
     ensures failed { IfErr result (λ fault. (fault.cause ≡ RunCause.PortCount → ⊥)
         × (fault.ports.items ≡ ports.items)) }
@@ -274,13 +277,14 @@ fn run_wired<W: Wiring + Send, G: Gate, R: Threads + Wait + Clock + Sync>(
     limits: Limits,
     mode: Mode,
 ) -> Result<KeptRun, RunFault>
-    requires mode { IsModeFor W.keeps W.sets mode }
+    requires mode { IsModeFor W.keeps W.sets W.waits mode }
     requires sound { IsSound plan.now }
     requires count { vec_len ports ≡ length plan.now.customers }
     requires rings { AreRingsOf plan.now W.rings rings }
     ensures run { IfOk result (λ kept. IsRun (λ b. script b) (λ b. tally b) plan.now ports kept.ran.ports
         kept.ran.counts kept.ran.last.items kept.ran.ended kept.ran.settled) }
     ensures unset { IfOk result (λ kept. W.sets ≡ false → NoPortIsSet kept.ran.counts) }
+    ensures whole { IfOk result (λ kept. W.waits ≡ true → NoFullQueueRefuses kept.ran.counts) }
     ensures rec { IfOk result (λ kept. W.keeps ≡ true → kept.rec ≡ kept.ran.counts) }
     ensures failed { IfErr result (λ fault. (fault.cause ≡ RunCause.PortCount → ⊥)
         × (fault.ports.items ≡ ports.items)) }
@@ -313,6 +317,7 @@ fn run_places<G: Gate, R: Threads + Wait + Clock + Sync>(
     ensures run { IfOk result (λ kept. IsRun (λ b. script b) (λ b. tally b) plan.now ports kept.ran.ports
         kept.ran.counts kept.ran.last.items kept.ran.ended kept.ran.settled) }
     ensures unset { IfOk result (λ kept. mode.sets ≡ false → NoPortIsSet kept.ran.counts) }
+    ensures whole { IfOk result (λ kept. mode.waits ≡ true → NoFullQueueRefuses kept.ran.counts) }
     ensures rec { IfOk result (λ kept. mode.keeps ≡ true → kept.rec ≡ kept.ran.counts) }
     ensures failed { IfErr result (λ fault. HasNotRun plan.now ports fault.ports fault.cause) }
 {
@@ -345,6 +350,10 @@ fn run_places<G: Gate, R: Threads + Wait + Clock + Sync>(
 /// For each port that keeps a script, the script before the run is what entered followed by the script that remains.
 /// For each port that keeps a tally, the tally after the run is the tally before followed by what left.
 ///
+/// If the run is to be lossless, an item waits on its ring while a queue is full to which its bridge may copy it. No
+/// bridge refuses a copy of a frame because a queue is full. Over a loop of links frames can wait for each other: then
+/// the run does not end by itself.
+///
 /// If the plan gives the states of the ports, none changes: each frame of a service for which the start is a forest was
 /// handled under that forest.
 ///
@@ -363,14 +372,19 @@ pub fn run<G: Gate, R: Threads + Wait + Clock + Sync>(
     ports: Vec<Held>,
     gate: &G,
     limits: Limits,
+    is_lossless: bool,
 ) -> Result<Ran, RunFault>
     requires { IsSound plan.now }
     ensures run { IfOk result (λ ran. IsRun (λ b. script b) (λ b. tally b) plan.now ports ran.ports
         ran.counts ran.last.items ran.ended ran.settled) }
     ensures planned { IfOk result (λ ran. plan.now.spanning ≡ Fixed → AreTracedFromStart plan.now ran.counts) }
+    ensures lossless { IfOk result (λ ran. is_lossless ≡ true → NoFullQueueRefuses ran.counts) }
     ensures failed { IfErr result (λ fault. HasNotRun plan.now ports fault.ports fault.cause) }
 {
-    let mode = Mode::COUNTED;
+    let mode = Mode {
+        waits: is_lossless,
+        ..Mode::COUNTED
+    };
     let KeptRun { ran, rec: _ } = run_places(rt, alloc, plan, ports, gate, limits, mode)?;
     Ok(ran)
 }
@@ -392,13 +406,18 @@ pub fn run_set<G: Gate, R: Threads + Wait + Clock + Sync>(
     ports: Vec<Held>,
     gate: &G,
     limits: Limits,
+    is_lossless: bool,
 ) -> Result<Ran, RunFault>
     requires { IsSound plan.now }
     ensures run { IfOk result (λ ran. IsRun (λ b. script b) (λ b. tally b) plan.now ports ran.ports
         ran.counts ran.last.items ran.ended ran.settled) }
+    ensures lossless { IfOk result (λ ran. is_lossless ≡ true → NoFullQueueRefuses ran.counts) }
     ensures failed { IfErr result (λ fault. HasNotRun plan.now ports fault.ports fault.cause) }
 {
-    let mode = Mode::SET;
+    let mode = Mode {
+        waits: is_lossless,
+        ..Mode::SET
+    };
     let KeptRun { ran, rec: _ } = run_places(rt, alloc, plan, ports, gate, limits, mode)?;
     Ok(ran)
 }
@@ -416,14 +435,19 @@ pub fn run_kept<G: Gate, R: Threads + Wait + Clock + Sync>(
     ports: Vec<Held>,
     gate: &G,
     limits: Limits,
+    is_lossless: bool,
 ) -> Result<KeptRun, RunFault>
     requires { IsSound plan.now }
     ensures run { IfOk result (λ kept. IsRun (λ b. script b) (λ b. tally b) plan.now ports kept.ran.ports
         kept.rec kept.ran.last.items kept.ran.ended kept.ran.settled) }
     ensures planned { IfOk result (λ kept. plan.now.spanning ≡ Fixed → AreTracedFromStart plan.now kept.rec) }
+    ensures lossless { IfOk result (λ kept. is_lossless ≡ true → NoFullQueueRefuses kept.rec) }
     ensures counts { IfOk result (λ kept. kept.ran.counts ≡ kept.rec) }
     ensures failed { IfErr result (λ fault. HasNotRun plan.now ports fault.ports fault.cause) }
 {
-    let mode = Mode::KEPT;
+    let mode = Mode {
+        waits: is_lossless,
+        ..Mode::KEPT
+    };
     run_places(rt, alloc, plan, ports, gate, limits, mode)
 }

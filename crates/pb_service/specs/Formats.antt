@@ -4,7 +4,7 @@ use Rattle.pb_frame.specs.Admission.{same}
 use Rattle.toml.specs.Data.{Members, get_member}
 use Rattle.pb_service.specs.declared.section.Section.{Section}
 use Rattle.pb_service.specs.declared.section.Section.TheVariants.{Bridge, Link, Service, Port, Event}
-use Rattle.pb_service.specs.declared.rule.Rule.TheVariants.{Number, BridgePriority, PortPriority, Name, Address, Spanning, Queues, State, PortKind, Stamp, Path, Losses, Names, Frames, Flag}
+use Rattle.pb_service.specs.declared.rule.Rule.TheVariants.{Number, BridgePriority, PortPriority, Name, Address, Spanning, Queues, State, PortKind, Stamp, Path, Losses, Names, Frames, Flag, FlagOrAuto}
 use Rattle.pb_service.specs.Keys.{KeyRule, with_default, without_default}
 use Rattle.pb_service.specs.Told.{has_key, text_told}
 
@@ -26,6 +26,7 @@ network_keys =
     ∷ with_default (codes "hold") (Number 0 1000000)
     ∷ with_default (codes "prompt") Flag
     ∷ with_default (codes "queues") Queues
+    ∷ with_default (codes "lossless") FlagOrAuto
     ∷ []
 
 -- the keys of a bridge

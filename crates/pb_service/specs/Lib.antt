@@ -9,4 +9,5 @@ pub mod Tables
 pub mod Refusals
 pub mod UsedPorts
 pub mod Events
+pub mod Lossless
 pub mod PlanFiles

@@ -1,5 +1,5 @@
 -- The contents of a plan file, and when a file is refused.
-use Rattle.std.specs.Prelude.{◌≡◌, ◌⊎◌, ℕ, codes, true, false, List, Some, None}
+use Rattle.std.specs.Prelude.{◌≡◌, ◌⊎◌, ℕ, codes, Bool, true, false, List, Some, None}
 use Rattle.std.specs.List.{AllZip}
 use Rattle.std.specs.Str.{IsUtf8}
 use Rattle.toml.specs.Data.{Members, get_member}
@@ -15,9 +15,10 @@ use Rattle.pb_service.specs.declared.section.Section.TheVariants.{Bridge, Link, 
 use Rattle.pb_service.specs.Keys.{IsAccepted, first_unknown}
 use Rattle.pb_service.specs.Formats.{top_keys, network_keys, bridge_keys, link_keys, service_keys, event_keys}
 use Rattle.pb_service.specs.Told.{rows_of, table_told, spanning_of, queues_of}
+use Rattle.pb_service.specs.Lossless.{is_lossless}
 use Rattle.pb_service.specs.Events.{IsEventOf}
 use Rattle.pb_service.specs.Clocks.{has_two_clocks, holds_forever, is_vainly_prompt}
-use Rattle.pb_service.specs.Tables.{number_at, text_at, prompt_told, limits_told, IsRead, IsReadPort, IsBridgeOf, IsLinkOf, IsServiceOf, IsCustomerOf, IsPortSpecOf}
+use Rattle.pb_service.specs.Tables.{number_at, text_at, prompt_told, lossless_told, limits_told, IsRead, IsReadPort, IsBridgeOf, IsLinkOf, IsServiceOf, IsCustomerOf, IsPortSpecOf}
 use Rattle.pb_service.specs.Refusals.{Refuses, HasTables, ends_told, is_table, names_of}
 
 -- the table of the network, or an empty one if the document has none
@@ -46,6 +47,10 @@ pub record AreLimitsOf (document : Members) (limits : Limits) : Type 0 where
   pub told : limits ≡ limits_told (network_row document)
   pub one_clock : has_two_clocks limits ≡ false
   pub some_clock : holds_forever limits ≡ false
+
+-- a run of the document's plan, with ports of these kinds, loses no frame because a queue is full
+abbrev pub IsLosslessIn : Members → List PortSpec → Bool → Type 0
+IsLosslessIn document specs result = result ≡ is_lossless (lossless_told (network_row document)) specs
 
 -- the events of a document, one for each of its tables
 pub record AreEventsOf (document : Members) (events : List PortEvent) : Type 0 where

@@ -20,7 +20,7 @@ use Rattle.pb_service.specs.Values.{text_in, all_items}
 use Rattle.pb_service.specs.Clocks.{has_two_clocks, holds_forever, is_vainly_prompt, lacks_time}
 use Rattle.pb_service.specs.Keys.{KeyRule, IsAccepted}
 use Rattle.pb_service.specs.Formats.{network_keys, port_keys}
-use Rattle.pb_service.specs.Told.{has_key, number_told, text_told, items_told, stamp_of, state_of, spanning_of, queues_of, flag_told, naturals_in, number_from, listed_from}
+use Rattle.pb_service.specs.Told.{has_key, number_told, text_told, items_told, stamp_of, state_of, spanning_of, queues_of, flag_told, flag_in, naturals_in, number_from, listed_from}
 
 -- the number at a key of a table, or the default, and never above the highest
 abbrev pub number_at : Members → List ℕ → ℕ → ℕ → ℕ
@@ -46,12 +46,17 @@ limits_told row = record {
 abbrev pub prompt_told : Members → Bool
 prompt_told row = flag_told (get_member (codes "prompt") row)
 
+-- a run loses no frame because a queue is full, if the table says so
+abbrev pub lossless_told : Members → Option Bool
+lossless_told row = flag_in (get_member (codes "lossless") row)
+
 -- the network that a table describes
 pub record IsNetworkOf (row : Members) (n : Network) : Type 0 where
   pub keys : IsAccepted network_keys row
   pub spanning : n.spanning ≡ spanning_of (text_at row (codes "spanning"))
   pub prompt : n.prompt ≡ prompt_told row
   pub queues : n.queues ≡ queues_of (text_at row (codes "queues"))
+  pub lossless : n.lossless ≡ lossless_told row
   pub ageing : n.ageing ≡ number_at row (codes "ageing") default_ageing 1000000
   pub ring : n.ring ≡ number_at row (codes "ring") 64 4096
   pub steps : n.steps ≡ number_at row (codes "steps") 18446744073709551615 18446744073709551615

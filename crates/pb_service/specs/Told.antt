@@ -28,6 +28,10 @@ has_key row key = is_some (get_member key row)
 abbrev pub flag_told : Option Data → Bool
 flag_told value = unwrap_or (option_and_then as_bool value) false
 
+-- the flag, if there is one
+abbrev pub flag_in : Option Data → Option Bool
+flag_in value = option_and_then as_bool value
+
 -- the text, or the empty one
 abbrev pub text_told : Option Data → List ℕ
 text_told value = option_map_or text_in value []

@@ -9,7 +9,7 @@ use Rattle.pb_frame.specs.Hex.{is_digit, IsMacText}
 use Rattle.pb_lan.specs.Names.{is_name}
 use Rattle.toml.specs.Data.{Data, Items, no_items, item, as_str, as_integer, as_array, as_bool}
 use Rattle.pb_service.specs.declared.rule.Rule.{Rule}
-use Rattle.pb_service.specs.declared.rule.Rule.TheVariants.{Number, BridgePriority, PortPriority, Name, Address, Spanning, Queues, State, PortKind, Stamp, Path, Losses, Names, Frames, Flag}
+use Rattle.pb_service.specs.declared.rule.Rule.TheVariants.{Number, BridgePriority, PortPriority, Name, Address, Spanning, Queues, State, PortKind, Stamp, Path, Losses, Names, Frames, Flag, FlagOrAuto}
 
 -- the number of an integer that isn't negative
 abbrev pub to_natural : ℤ → Option ℕ
@@ -69,6 +69,7 @@ is_of_kind Losses d = is_list (all_items (λ e. is_some (as_integer e))) d
 is_of_kind Names d = is_list (all_items (λ e. is_some (as_str e))) d
 is_of_kind Frames d = is_list (all_items (λ e. is_some (as_str e))) d
 is_of_kind Flag d = is_some (as_bool d)
+is_of_kind FlagOrAuto d = is_some (as_bool d) || is_some (as_str d)
 is_of_kind _ d = is_some (as_str d)
 
 -- the rule allows the value
@@ -88,3 +89,4 @@ IsAllowed Losses d = is_list (rise_from 0) d ≡ true
 IsAllowed Names d = is_list (λ ds. all_items (is_text is_name) ds && are_distinct ds) d ≡ true
 IsAllowed Frames d = is_list (all_items (is_text is_hex)) d ≡ true
 IsAllowed Flag d = is_some (as_bool d) ≡ true
+IsAllowed FlagOrAuto d = (is_some (as_bool d) || is_text (same (codes "auto")) d) ≡ true

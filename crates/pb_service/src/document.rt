@@ -4,7 +4,8 @@ ghost use Rattle.std.specs.Prelude.{IfOk, IfErr, OnOk};
 ghost use Rattle.toml.specs.View.{table_view};
 ghost use Rattle.pb_lan.specs.Plans.{IsSound};
 ghost use Rattle.pb_service.specs.Refusals.{Refuses};
-ghost use Rattle.pb_service.specs.PlanFiles.{IsPlanOf, AreLimitsOf, AreEventsOf, Tells, IsPlanFile, RefusesFile};
+ghost use Rattle.pb_service.specs.PlanFiles.{IsPlanOf, AreLimitsOf, AreEventsOf, IsLosslessIn, Tells};
+ghost use Rattle.pb_service.specs.PlanFiles.{IsPlanFile, RefusesFile};
 
 use crate::bridge::read_bridges;
 use crate::event::{PortEvent, read_events};
@@ -12,7 +13,7 @@ use crate::fault::PlanFault;
 use crate::link::{Links, read_links};
 use crate::network::read_network;
 use crate::port::{Customers, read_customers};
-use crate::port_spec::PortSpec;
+use crate::port_spec::{PortSpec, is_lossless};
 use crate::row::check_top;
 use crate::service::read_services;
 use pb_frame::Seq;
@@ -29,6 +30,8 @@ pub struct PlanFile {
     pub ports: Vec<PortSpec>,
     /// The limits of a run, and the clock by which bridges tick.
     pub limits: Limits,
+    /// Whether a run loses no frame because a queue is full.
+    pub is_lossless: bool,
     /// The events that disable and enable ports during a run, in the order of the file.
     pub events: Vec<PortEvent>,
 }
@@ -39,6 +42,8 @@ pub struct PlanFile {
 fn file_of(alloc: Global, document: &Table) -> Result<PlanFile, PlanFault>
     ensures ok { IfOk result (λ file. IsPlanOf (table_view document.now) file.plan file.ports.items) }
     ensures limits { IfOk result (λ file. AreLimitsOf (table_view document.now) file.limits) }
+    ensures lossless { IfOk result (λ file.
+        IsLosslessIn (table_view document.now) file.ports.items file.is_lossless) }
     ensures events { IfOk result (λ file. AreEventsOf (table_view document.now) file.events.items) }
     ensures sound { IfOk result (λ file. IsSound file.plan) }
     ensures err { IfErr result (Refuses (table_view document.now)) }
@@ -62,10 +67,12 @@ fn file_of(alloc: Global, document: &Table) -> Result<PlanFile, PlanFault>
         ring: network.ring,
         steps: network.steps,
     };
+    let is_lossless = is_lossless(network.lossless, specs.as_slice());
     Ok(PlanFile {
         plan,
         ports: specs,
         limits: network.limits,
+        is_lossless,
         events,
     })
 }
@@ -78,6 +85,8 @@ fn file_of(alloc: Global, document: &Table) -> Result<PlanFile, PlanFault>
 pub fn read_plan_file(alloc: Global, file: &[u8]) -> Result<PlanFile, PlanFault>
     ensures ok { IfOk result (λ r. Tells file.now (λ document. IsPlanOf document r.plan r.ports.items)) }
     ensures limits { IfOk result (λ r. Tells file.now (λ document. AreLimitsOf document r.limits)) }
+    ensures lossless { IfOk result (λ r. Tells file.now (λ document.
+        IsLosslessIn document r.ports.items r.is_lossless)) }
     ensures events { IfOk result (λ r. Tells file.now (λ document. AreEventsOf document r.events.items)) }
     ensures sound { IfOk result (λ r. IsSound r.plan) }
     ensures err { IfErr result (RefusesFile file.now) }
@@ -128,6 +137,7 @@ pub fn read_plan(alloc: Global, file: &[u8]) -> Result<(Plan, Vec<PortSpec>), Pl
         plan,
         ports,
         limits: _,
+        is_lossless: _,
         events: _,
     } = read_plan_file(alloc, file)?;
     Ok((plan, ports))
@@ -147,6 +157,7 @@ pub fn read_limits(alloc: Global, file: &[u8]) -> Result<Limits, PlanFault>
         plan: _,
         ports: _,
         limits,
+        is_lossless: _,
         events: _,
     } = read_plan_file(alloc, file)?;
     Ok(limits)

@@ -47,7 +47,7 @@ macro_rules! port_keys {
 }
 
 /// The keys of the network.
-static NETWORK: [Key; 10] = [
+static NETWORK: [Key; 11] = [
     optional!("spanning", Rule::Spanning),
     optional!("ageing", 10..=1_000_000),
     optional!("ring", 1..=4096),
@@ -58,6 +58,7 @@ static NETWORK: [Key; 10] = [
     optional!("hold", 0..=1_000_000),
     optional!("prompt", Rule::Flag),
     optional!("queues", Rule::Queues),
+    optional!("lossless", Rule::FlagOrAuto),
 ];
 
 /// The keys of a bridge.

@@ -16,7 +16,7 @@ use crate::formats::network_keys;
 use crate::key_fault::KeyFault;
 use crate::row::{check_keys, told};
 use crate::section::KeyTable;
-use crate::told::{flag_at, number_at, queues_of, spanning_of, text_at, value_at};
+use crate::told::{flag_at, flag_in, number_at, queues_of, spanning_of, text_at, value_at};
 use pb_frame::Text;
 use pb_lan::{DEFAULT_AGEING, Limits, Queues, Spanning};
 use std::alloc::Global;
@@ -28,6 +28,8 @@ pub(crate) struct Network {
     pub spanning: Spanning,
     pub prompt: bool,
     pub queues: Queues,
+    /// Whether a run loses no frame because a queue is full, if the table says so.
+    pub lossless: Option<bool>,
     pub ageing: u32,
     pub ring: u16,
     pub steps: u64,
@@ -116,6 +118,7 @@ fn network_of(alloc: Global, row: &Table) -> Result<Network, PlanFault>
         spanning,
         prompt,
         queues: queues_of(text_at(row, "queues")),
+        lossless: flag_in(row, "lossless"),
         ageing: number_at(row, "ageing", DEFAULT_AGEING as u64, 1_000_000) as u32,
         ring: number_at(row, "ring", 64, 4096) as u16,
         steps: number_at(row, "steps", u64::MAX, u64::MAX),

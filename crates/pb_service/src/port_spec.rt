@@ -1,5 +1,9 @@
 //! The kinds of customer ports.
 
+ghost use Rattle.std.specs.Prelude.{◌≡◌};
+ghost use Rattle.std.specs.List.{list_any};
+ghost use Rattle.pb_service.specs.Lossless.{is_socket, is_lossless};
+
 use bytes::Bytes;
 use pb_frame::{Seq, Text};
 
@@ -33,4 +37,29 @@ pub enum PortSpec {
         /// Whether the port makes the socket and waits for a peer. Otherwise it connects to one.
         listens: bool,
     },
+}
+
+/// Returns whether the port is a socket.
+fn is_socket(port: &PortSpec) -> bool
+    ensures { result ≡ is_socket port.now }
+{
+    matches!(port, PortSpec::Socket { .. })
+}
+
+/// Returns whether one of the ports is a socket.
+fn has_socket(ports: &[PortSpec]) -> bool
+    ensures { result ≡ list_any is_socket ports.now }
+{
+    ports.iter().any(|port| is_socket(port))
+}
+
+/// Returns whether a run loses no frame because a queue is full. If `told` leaves it open, it loses none
+/// exactly if no port is a socket.
+pub(crate) fn is_lossless(told: Option<bool>, ports: &[PortSpec]) -> bool
+    ensures { result ≡ is_lossless told ports.now }
+{
+    match told {
+        Some(is_lossless) => is_lossless,
+        None => !has_socket(ports),
+    }
 }

@@ -33,6 +33,8 @@ pub(crate) enum Rule {
     Frames,
     /// True or false.
     Flag,
+    /// True, false or `auto`.
+    FlagOrAuto,
 }
 
 /// A key of a table: its name, whether it must be present, and the rule for its value.

@@ -3,7 +3,7 @@
 ghost use Rattle.std.specs.Prelude.{◌≡◌, ◌<◌, ◌≤◌, ◌^◌, length, map, option_map, take, IfOk, IfErr, IfSome};
 ghost use Rattle.toml.specs.Data.{get_member};
 ghost use Rattle.toml.specs.View.{view, items_view, table_view};
-ghost use Rattle.pb_service.specs.Told.{number_told, flag_told, text_told, items_told, state_of, spanning_of};
+ghost use Rattle.pb_service.specs.Told.{number_told, flag_told, flag_in, text_told, items_told, state_of, spanning_of};
 ghost use Rattle.pb_service.specs.Told.{naturals_in, number_from, listed_from, has_key, queues_of, stamp_of};
 ghost use Rattle.pb_service.specs.declared.fault.PlanFault.TheVariants.{Memory as memory_fault};
 
@@ -52,6 +52,16 @@ pub(crate) fn flag_at(table: &Table, key: &str) -> bool
     match value_at(table, key) {
         Some(value) => value.as_bool().unwrap_or(false),
         None => false,
+    }
+}
+
+/// Returns the flag at a key, if there is one.
+pub(crate) fn flag_in(table: &Table, key: &str) -> Option<bool>
+    ensures { result ≡ flag_in (get_member key.now (table_view table.now)) }
+{
+    match value_at(table, key) {
+        Some(value) => value.as_bool(),
+        None => None,
     }
 }
 

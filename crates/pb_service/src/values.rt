@@ -287,6 +287,7 @@ pub(crate) fn is_of_kind(rule: Rule, value: &Value) -> bool
             None => false,
         },
         Rule::Flag => value.is_bool(),
+        Rule::FlagOrAuto => value.is_bool() || value.is_str(),
         Rule::Name
         | Rule::Address
         | Rule::Spanning
@@ -318,6 +319,7 @@ pub(crate) fn is_allowed(rule: Rule, value: &Value) -> bool
         Rule::Names => are_listed(value),
         Rule::Frames => are_frames(value),
         Rule::Flag => value.is_bool(),
+        Rule::FlagOrAuto => value.is_bool() || is_same(value, "auto"),
     }
 }
 

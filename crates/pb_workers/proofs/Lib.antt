@@ -1,1 +1,2 @@
 pub mod UsedPorts
+pub mod RoomLemmas

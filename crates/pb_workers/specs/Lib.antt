@@ -1,4 +1,5 @@
 pub mod Ports
 pub mod Bridges
 pub mod Workers
+pub mod Lossless
 pub mod Drained

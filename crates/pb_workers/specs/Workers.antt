@@ -12,11 +12,12 @@ use Rattle.pb_workers.specs.declared.customer.CustomerWorker.{CustomerWorker}
 use Rattle.pb_workers.specs.declared.lane.LaneWorker.{LaneWorker}
 use Rattle.pb_workers.specs.declared.mode.Mode.{Mode}
 
--- places over rings may work in this mode: they keep their steps if the rings require it, and set ports only if the
--- rings allow it
-pub record IsModeFor (keeps sets : Bool) (mode : Mode) : Type 0 where
+-- places over rings may work in this mode: they keep their steps and wait for full queues if the rings require it, and
+-- set ports only if the rings allow it
+pub record IsModeFor (keeps sets waits : Bool) (mode : Mode) : Type 0 where
   pub kept : keeps ≡ true → mode.keeps ≡ true
   pub set : mode.sets ≡ true → sets ≡ true
+  pub waited : waits ≡ true → mode.waits ≡ true
 
 -- a bridge has as many rings to send as to receive, and nothing has passed them
 pub record AreNewSides {X : Type 0} {W : Ghosts X} (ins : Inlets X W) (outs : Outlets X W) : Type 0 where

@@ -1,6 +1,6 @@
 //! The worker of a bridge.
 
-ghost use Rattle.std.specs.Prelude.{◌≡◌, ◌&&◌, ◌<◌, ◌≤◌, ◌+◌, ◌-◌, ℕ, [], true, false, IfOk, OnErr};
+ghost use Rattle.std.specs.Prelude.{◌≡◌, ◌&&◌, ◌<◌, ◌≤◌, ◌+◌, ◌-◌, ℕ, [], true, false, IsTrue, IfOk, OnErr};
 ghost use Rattle.std.specs.Prelude.{length, map, vec_len, slice_index_or};
 ghost use Rattle.std.specs.List.{list_any};
 ghost use Rattle.rtrb.specs.Ring.{sent, received as received_over};
@@ -10,17 +10,20 @@ ghost use Rattle.pb_lan.specs.Laws.{is_setting};
 ghost use Rattle.pb_lan.specs.PortLists.{fed, delivered};
 ghost use Rattle.pb_lan.specs.Ports.{port_at, is_used, is_provider};
 ghost use Rattle.pb_lan.specs.Plans.{IsSound, IsNumber};
+ghost use Rattle.pb_lan.specs.Queues.{capacity_of};
 ghost use Rattle.pb_lan.specs.Records.{received, transmitted};
 ghost use Rattle.pb_relay.specs.Changes.{HasSet};
 ghost use Rattle.pb_relay.specs.Standing.{at_start};
 ghost use Rattle.pb_ring.specs.Rings.{shown_at};
 ghost use Rattle.pb_workers.specs.Bridges.{AreUsed, view_of};
+ghost use Rattle.pb_workers.specs.Lossless.{refuses_when_full, HasRoomBeside};
 
 use crate::access::Access;
 use crate::gift::BridgeGift;
 use crate::lane::LaneWorker;
 use crate::mode::Mode;
 use crate::refusal::{Refusal, Taken, turn};
+use crate::room::{has_room_beside, queue_of};
 use crate::used::used_ports;
 use crate::view::view_of;
 use pb_frame::{Memory, index_of};
@@ -50,6 +53,10 @@ pub struct BridgeWorker<W: Wiring> {
     pub(crate) next: usize,
     /// Whether the worker fulfils wishes.
     pub(crate) sets: bool,
+    /// Whether an item waits on its ring while a queue is full to which the bridge may copy it.
+    pub(crate) waits: bool,
+    /// The most items that wait at each port of the bridge.
+    pub(crate) queue: u16,
     pub ghost used: { AreUsed bridge.plan bridge.number (vec_len ins.ends) ports.items },
     pub ghost sides: { vec_len outs.ends ≡ vec_len ins.ends },
     pub ghost took: { (q : ℕ) → shown_at (λ i. received_over i.end) ins.ends.items q ≡ received (q + 1) bridge.steps },
@@ -57,6 +64,9 @@ pub struct BridgeWorker<W: Wiring> {
     pub ghost wishes: { sets ≡ true → W.sets ≡ true },
     pub ghost unset: { W.sets ≡ false → list_any is_setting bridge.steps ≡ false },
     pub ghost kept: { W.keeps ≡ true → bridge.is_kept ≡ true },
+    pub ghost patient: { W.waits ≡ true → waits ≡ true },
+    pub ghost capacity: { queue ≡ capacity_of bridge.plan bridge.number },
+    pub ghost whole: { W.waits ≡ true → list_any refuses_when_full bridge.steps ≡ false },
 }
 
 impl From<BridgeFault> for Refusal {
@@ -135,8 +145,8 @@ impl<W: Wiring> BridgeWorker<W> {
     ghost use Rattle.pb_workers.specs.Workers.{IsModeFor, AreNewSides, IsSameBridge, KeepsRings, HasRings};
 
     /// Returns the worker of the bridge of this number, which has taken no step, over rings that nothing has passed. It
-    /// serves the local ports that the plan uses and that have rings. Its mode says whether it keeps its steps, and
-    /// whether it fulfils wishes.
+    /// serves the local ports that the plan uses and that have rings. Its mode says whether it keeps its steps, whether
+    /// it fulfils wishes, and whether items wait for full queues.
     ///
     /// # Errors
     ///
@@ -149,7 +159,7 @@ impl<W: Wiring> BridgeWorker<W> {
         outs: Outlets<W>,
         mode: Mode,
     ) -> Result<BridgeWorker<W>, Memory>
-        requires mode { IsModeFor W.keeps W.sets mode }
+        requires mode { IsModeFor W.keeps W.sets W.waits mode }
         requires sound { IsSound plan.now }
         requires bridge { IsNumber number (length plan.now.bridges) }
         requires sides { AreNewSides ins outs }
@@ -168,6 +178,8 @@ impl<W: Wiring> BridgeWorker<W> {
             finish: None,
             next: 0,
             sets: mode.sets,
+            waits: mode.waits,
+            queue: queue_of(plan, number),
         })
     }
 
@@ -191,14 +203,23 @@ impl<W: Wiring> BridgeWorker<W> {
         Ok(true)
     }
 
-    /// Receives the first item that came to a port, if there is one.
+    /// Checks whether the worker may receive at a port. If items wait for full queues, it may if each other Forwarding
+    /// port has room for one more.
+    fn may_receive(&self, port: u8) -> bool
+        ensures { W.waits ≡ true → IsTrue result
+            → HasRoomBeside self.now.bridge.plan self.now.bridge.number self.now.bridge.steps port }
+    {
+        !self.waits || has_room_beside(&self.bridge, self.queue, port)
+    }
+
+    /// Receives the first item that came to a port, if there is one and the worker may receive it.
     fn receive(&mut self, port: u8) -> Turn
         requires port { (0 < port) × (port ≤ vec_len self.old.ins.ends) }
         requires used { is_used (port_at self.old.bridge.plan self.old.bridge.number port) ≡ true }
         ensures { IsSameBridge self.old self.new }
     {
         let place = index_of(port);
-        if !self.ins.has_item(place) {
+        if !self.ins.has_item(place) || !self.may_receive(port) {
             return turn(Ok(false), 0, 0);
         }
         if let Err(fault) = self.bridge.reserve_step() {

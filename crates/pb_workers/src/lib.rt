@@ -14,6 +14,7 @@ mod gift;
 mod lane;
 mod mode;
 mod refusal;
+mod room;
 mod used;
 mod view;
 

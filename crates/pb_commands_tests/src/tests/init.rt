@@ -241,11 +241,11 @@ fn dual_homed_bridges_are_plans(rt: HostRuntime) -> Result<(), Fail> {
 fn each_suggestion_can_be_used(rt: HostRuntime) -> Result<(), Fail> {
     let alloc = rt.alloc();
     for (topology, services, blocks, limits) in [
-        (Topology::Line(1), 1, 8, UNLIMITED),
-        (Topology::Line(2), 1, 13, UNLIMITED),
-        (Topology::Ring(3), 2, 11, CLOCK),
-        (Topology::Star(4), 3, 13, UNLIMITED),
-        (Topology::DualHomed(2), 4, 11, CLOCK),
+        (Topology::Line(1), 1, 9, UNLIMITED),
+        (Topology::Line(2), 1, 14, UNLIMITED),
+        (Topology::Ring(3), 2, 12, CLOCK),
+        (Topology::Star(4), 3, 14, UNLIMITED),
+        (Topology::DualHomed(2), 4, 12, CLOCK),
     ] {
         let mut file = Vec::new(alloc);
         assert_eq!(rt; write_plan(alloc, topology, services, &mut file), Ok(()));

@@ -2,6 +2,7 @@
 
 mod both_ends;
 mod faults;
+mod lossless;
 mod order;
 mod plans;
 mod ranges;

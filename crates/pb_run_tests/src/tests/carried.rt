@@ -111,6 +111,33 @@ fn a_line_carries_a_hundred_broadcasts(rt: HostRuntime) -> Result<(), Fail> {
 }
 
 #[test]
+fn a_lossless_line_with_queues_for_one_frame_carries_all(rt: HostRuntime) -> Result<(), Fail> {
+    const SETUP: Setup<'static> = Setup {
+        draft: Draft {
+            queue: 1,
+            ring: 1,
+            ..LINE
+        },
+        ports: &[
+            Outer::Memory(200),
+            Outer::Memory(0),
+            Outer::Memory(0),
+            Outer::Memory(0),
+        ],
+        limits: LONG,
+        left: &[
+            Frames::First(0),
+            Frames::First(200),
+            Frames::First(200),
+            Frames::First(200),
+        ],
+    };
+    let told = ran(&rt, rt.alloc(), &SETUP, &Open, Way::Lossless)?;
+    assert!(rt; told.ended == Some(Ended::Drained) && told.is_left);
+    Ok(())
+}
+
+#[test]
 fn a_line_carries_four_thousand_broadcasts(rt: HostRuntime) -> Result<(), Fail> {
     const ROW: Row = Row {
         setup: Setup {

@@ -125,6 +125,8 @@ fn ports_of(
 pub(super) enum Way {
     /// The run keeps all steps.
     Kept,
+    /// The run keeps all steps, and is lossless.
+    Lossless,
     /// The run only counts its steps.
     Counted,
     /// The run only counts its steps, and sets ports as its gate wishes.
@@ -170,12 +172,13 @@ fn ran_with<G: Gate, R: Threads + Wait + Clock + Sync>(
     }
     let limits = setup.limits;
     match way {
-        Way::Kept => {
-            let outcome = run_kept(rt, alloc, plan, ports, gate, limits);
+        Way::Kept | Way::Lossless => {
+            let is_lossless = matches!(way, Way::Lossless);
+            let outcome = run_kept(rt, alloc, plan, ports, gate, limits, is_lossless);
             told_of_kept(alloc, outcome, setup.left, activity.polls())
         }
-        Way::Counted => told_of(alloc, run(rt, alloc, plan, ports, gate, limits)),
-        Way::Set => told_of(alloc, run_set(rt, alloc, plan, ports, gate, limits)),
+        Way::Counted => told_of(alloc, run(rt, alloc, plan, ports, gate, limits, false)),
+        Way::Set => told_of(alloc, run_set(rt, alloc, plan, ports, gate, limits, false)),
     }
 }
 

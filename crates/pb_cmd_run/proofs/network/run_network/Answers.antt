@@ -15,5 +15,7 @@ returns-in_ok-plug-in-Ok-clause-ok g c =
       plan = network.plan;
       specs = network.ports.items;
       told = c.in-Ok.ensures.ok;
+      lossless = network.is_lossless;
+      lossless_told = c.in-Ok.ensures.lossless;
       prints = ran;
     })) c.run_opened-ran.ensures.ok

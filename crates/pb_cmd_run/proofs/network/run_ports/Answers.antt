@@ -34,6 +34,7 @@ returns-in-Ok-clause-ok g c =
       rec = after.counts;
       lawful = rw kept.counts run.steps.lawful;
       headline = rw kept.counts run.steps.headline;
+      whole = λ lossless. rw kept.counts (c.in-Ok.ensures.lossless lossless);
       lasts = after.last.items;
       last_count = rw kept.last (grind (arith, common_steps));
       scripted = rw (kept.counts, kept.last)

@@ -26,6 +26,8 @@ pub(super) const INIT: &str = r#"# A starter plan for pbnet. If this is the file
 #steps = 1000000
 #turns = 1000000000
 #tick_every = 0
+# What a run does at a full queue: true: frames wait; false: copies are lost; "auto": as true without sockets:
+#lossless = "auto"
 
 # The bridges, each with an address and the ports 1 to 16, and the links between them.
 

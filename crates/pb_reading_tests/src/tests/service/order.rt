@@ -10,6 +10,8 @@ const FILES: &[(&str, &str)] = &[
     ("[network]\nring = 0\nageing = 1", "5 range network.ageing"),
     ("[network]\nqueues = \"Class\"", "5 range network.queues"),
     ("[network]\nqueues = 8", "4 kind network.queues"),
+    ("[network]\nlossless = 1", "4 kind network.lossless"),
+    ("[network]\nlossless = \"true\"", "5 range network.lossless"),
     (
         "[network]\nqueues = \"\"\nhold = -1",
         "5 range network.hold",

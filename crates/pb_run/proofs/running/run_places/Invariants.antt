@@ -7,4 +7,5 @@ ghosts-run_wired g a = record {
   rings = map (λ r. writer_name r.0) a.rings.items;
   keeps = a.mode.keeps;
   sets = a.mode.sets;
+  waits = a.mode.waits;
 }

@@ -8,6 +8,7 @@ use Rattle.pb_lan.specs.declared.step.Step.{Step}
 use Rattle.pb_lan.proofs.Headline.{faithful}
 use Rattle.pb_lan.proofs.Stillness.{planned_states_stay, still_frames_are_traced}
 use Rattle.pb_history.specs.Tallied.{record_of}
+use Rattle.pb_workers.specs.Lossless.{refuses_when_full}
 use Rattle.pb_run.proofs.Lawful.{lawful_workers}
 use Rattle.pb_run.proofs.running.told_of.Goals as goal
 
@@ -42,6 +43,11 @@ pub returns-clause-unset : goal.returns-clause-unset
 returns-clause-unset g c = λ still.
     subst (λ (r : Record). AllByRecursion (λ steps. list_any is_setting steps ≡ false) r.bridges) (sym c.new.ensures)
     (c.bridge_lists-bridges.ensures.unset still)
+
+pub returns-clause-whole : goal.returns-clause-whole
+returns-clause-whole g c = λ waits.
+    subst (λ (r : Record). AllByRecursion (λ steps. list_any refuses_when_full steps ≡ false) r.bridges)
+    (sym c.new.ensures) (c.bridge_lists-bridges.ensures.whole waits)
 
 pub returns-clause-kept : goal.returns-clause-kept
 returns-clause-kept g c = λ keeps.

@@ -1,0 +1,132 @@
+//! Runs that lose no frame because a queue is full.
+
+use super::sheet::Sheet;
+use super::{Manner, PLAIN, Row, Told, check, check_under, run};
+use pb_cmd_run::Strictness;
+use std::alloc::{AllocError, Global};
+use std::test::Fail;
+
+/// Two bridges with queues and rings for one frame, and a customer port at each. The frames of the first follow.
+const TIGHT: &str = r#"
+[network]
+ring = 1
+
+[[bridge]]
+name = "B1"
+address = "02-00-00-00-00-01"
+queue = 1
+
+[[bridge]]
+name = "B2"
+address = "02-00-00-00-00-02"
+queue = 1
+
+[[link]]
+name = "L1"
+a = "B1"
+a_port = 1
+b = "B2"
+b_port = 1
+
+[[service]]
+name = "red"
+vid = 100
+
+[[port]]
+name = "C2"
+bridge = "B2"
+port = 2
+service = "red"
+
+[[port]]
+name = "C1"
+bridge = "B1"
+port = 2
+service = "red"
+in = ["#;
+
+/// The report of two hundred frames that all arrive.
+const ALL: &str =
+    "ended drained\nport C1 entered 200 left 0 filtered 0\nport C2 entered 0 left 200 filtered 0\n\
+    link L1 ab taken 200 lost 0 ba taken 0 lost 0\nforest yes\n";
+
+/// Returns the list of two hundred frames, up to its end.
+fn frames(alloc: Global) -> Result<String, AllocError> {
+    let mut text = String::new(alloc);
+    for _ in 0..200u8 {
+        text.push_str("\"ffffffffffff02000000010108004100\", ")?;
+    }
+    text.push_str("]\n")?;
+    Ok(text)
+}
+
+#[test]
+fn two_hundred_frames_pass_queues_for_one(rt: HostRuntime) -> Result<(), Fail> {
+    let alloc = rt.alloc();
+    let manner = Manner {
+        strictness: Strictness::Strict,
+        ..PLAIN
+    };
+    let frames = frames(alloc)?;
+    let mut output = Sheet::whole(ALL.as_bytes());
+    let mut errors = Sheet::whole(b"");
+    let told = run(
+        &rt,
+        alloc,
+        [TIGHT, frames.as_str()],
+        manner,
+        &mut output,
+        &mut errors,
+    )?;
+    let want = Told {
+        result: Ok(0),
+        traffic: (200, 200),
+        closed: 1,
+    };
+    assert_eq!(rt;
+        (told, output.is_right(), errors.is_right()),
+        (want, true, true)
+    );
+    Ok(())
+}
+
+/// Two links between two bridges, over which a service has a loop.
+const LOOP: &str = r#"
+bridge = [{ name = "B1", address = "02-00-00-00-00-01" }, { name = "B2", address = "02-00-00-00-00-02" }]
+link = [
+    { name = "L1", a = "B1", a_port = 1, b = "B2", b_port = 1 },
+    { name = "L2", a = "B1", a_port = 2, b = "B2", b_port = 2 },
+]
+service = [{ name = "red", vid = 100 }]
+"#;
+
+/// A run over the loop, with this key of the network.
+fn over_loop(key: &'static str) -> Row {
+    Row {
+        parts: [key, LOOP],
+        told: Told {
+            result: Ok(0),
+            traffic: (0, 0),
+            closed: 1,
+        },
+        report: "ended drained\nlink L1 ab taken 0 lost 0 ba taken 0 lost 0\n\
+            link L2 ab taken 0 lost 0 ba taken 0 lost 0\nforest no\nloop red\n",
+    }
+}
+
+#[test]
+fn a_lossless_run_over_a_loop_has_a_warning(rt: HostRuntime) -> Result<(), Fail> {
+    let warning = "warning: service red has a loop at start: a lossless run may stall\n";
+    check_under(
+        &rt,
+        rt.alloc(),
+        &over_loop(""),
+        Strictness::Lenient,
+        warning,
+    )?;
+    check(
+        &rt,
+        rt.alloc(),
+        &over_loop("network = { lossless = false }\n"),
+    )
+}

@@ -1,0 +1,152 @@
+-- A frame that is received while the other ports have room is refused by no full queue.
+use Rattle.std.proofs.Common.{◌≡◌, ◌≢◌, ◌<◌, ◌≤◌, ◌==◌, ◌&&◌, ◌++◌, ℕ, zero, suc, Bool, true, false, not, nat_le, List, [], ◌∷◌}
+use Rattle.std.proofs.Common.{Option, Some, None, inl, inr, length, map, slice_get, refl, sym, ap, ◌∙◌, subst, arith}
+use Rattle.std.specs.List.{AllByRecursion, filter, list_any}
+use Rattle.pb_frame.proofs.Lists.{All-both, All-imply, All-passed, All-placed, All-unmap, list_any-at, list_any-found}
+use Rattle.pb_frame.proofs.Lists.{false-unless, true-false, eqb-refl, Some-injective}
+use Rattle.pb_frame.specs.declared.learnt.Learnt.{Learnt}
+use Rattle.pb_lan.proofs.Rulings.{IsChoice, IsLocal, chosen-choice, number-local}
+use Rattle.pb_lan.specs.BridgeLists.{AreRefused, Fits, Follows, IsRelayed, Ruling, ruling, is_full_word, is_named_full}
+use Rattle.pb_lan.specs.BridgeLists.Ruling.{Refuses, Listens, LearnsOnly, Carries, Closed}
+use Rattle.pb_lan.specs.Choice.{chosen_ports}
+use Rattle.pb_lan.specs.Numbering.{numbered}
+use Rattle.pb_lan.specs.Plans.{IsNumber}
+use Rattle.pb_lan.specs.Ports.{Port, port_at, is_used, local_ports}
+use Rattle.pb_lan.specs.Ports.Port.{Customer, Provider, Unused}
+use Rattle.pb_lan.specs.Queues.{Waiting, capacity_of, class_of, is_full, is_full_by, is_refused, priority_in, waiting}
+use Rattle.pb_lan.specs.Rules.{Rules}
+use Rattle.pb_lan.specs.Shapes.{changes_of, is_forwarding, moved_of, state_after, state_by, states_after}
+use Rattle.pb_lan.specs.declared.plan.Plan.{Plan}
+use Rattle.pb_lan.specs.declared.plan.Queues.{Queues}
+use Rattle.pb_lan.specs.declared.plan.Queues.TheVariants.{PerPort, PerClass}
+use Rattle.pb_lan.specs.declared.shape.PortState.{PortState}
+use Rattle.pb_lan.specs.declared.shape.PortState.TheVariants.{Discarding, Learning, Forwarding}
+use Rattle.pb_lan.specs.declared.step.Item.{Item}
+use Rattle.pb_lan.specs.declared.step.Moved.{Moved}
+use Rattle.pb_lan.specs.declared.step.NoRoom.{NoRoom}
+use Rattle.pb_lan.specs.declared.step.Outcome.{Outcome}
+use Rattle.pb_lan.specs.declared.step.Outcome.TheVariants.{Relayed, Filtered, Heard}
+use Rattle.pb_lan.specs.declared.step.Step.{Step}
+use Rattle.pb_lan.specs.declared.step.Step.TheVariants.{Receive}
+use Rattle.pb_relay.proofs.StepLemmas.{states_stay}
+use Rattle.pb_workers.specs.Lossless.{HasRoomBeside, refuses_when_full}
+
+-- a list has at least as many items as pass a test
+few_pass : {X : Type 0} (test : X → Bool) (xs : List X) → length (filter test xs) ≤ length xs
+few_pass test [] = omega arith
+few_pass test (x ∷ xs) = let rest = few_pass test xs in grind (arith, rest)
+
+not_full : (most waiting : ℕ) → waiting < most → nat_le most waiting ≡ false
+not_full most waiting room = grind arith
+
+neither : (a b : Bool) → b ≡ false → (a && b) ≡ false
+neither true b e = e
+neither false b e = refl
+
+-- fewer items than the capacity leave room in each traffic class
+room_in_class : (queues : Queues) (most class : ℕ) (ws : List Waiting) → length ws < most
+    → is_full_by queues most class ws ≡ false
+room_in_class PerPort most class ws room = not_full most (length ws) room
+room_in_class PerClass most class ws room =
+    let few = few_pass (λ (w : Waiting). w.class == class) ws in
+    neither (not (class == 8)) _ (not_full most (length (filter (λ w. w.class == class) ws)) (omega arith))
+
+forwards : (s : PortState) → is_forwarding s ≡ true → s ≡ Forwarding
+forwards Forwarding e = refl
+forwards Learning e = cc
+forwards Discarding e = cc
+
+-- no chosen port is full for the class of the frame
+pub chosen_have_room : (plan : Plan) (b q v class : ℕ) (earlier : List Step) (step : Step) (wire : List ℕ)
+    → HasRoomBeside plan b earlier q → moved_of step ≡ []
+    → AllByRecursion (λ p. is_full plan b earlier class p ≡ false) (chosen_ports plan b (earlier ++ step ∷ []) q v wire)
+chosen_have_room plan b q v class earlier step wire room still =
+    All-imply (IsChoice plan b (earlier ++ step ∷ []) q v) (λ p. is_full plan b earlier class p ≡ false)
+    (λ p choice.
+    let other = λ (same : p ≡ q). true-false (p == q) (ap (λ n. n == q) same ∙ eqb-refl q) choice.other in
+    let there : numbered (states_after plan b earlier) p ≡ Some Forwarding =
+    ap (λ states. numbered states p) (sym (states_stay plan b earlier step still))
+    ∙ choice.local (state_after plan b (earlier ++ step ∷ []))
+    ∙ ap (λ s. Some s) (forwards (state_after plan b (earlier ++ step ∷ []) p) choice.forwarding) in
+    room_in_class plan.queues (capacity_of plan b) class (waiting plan b p earlier) (room p other there))
+    (chosen_ports plan b (earlier ++ step ∷ []) q v wire)
+    (chosen-choice plan b (earlier ++ step ∷ []) q v wire)
+
+-- if no chosen port is full, no refusal names a full queue
+none_named : (full : ℕ → Bool) (chosen : List ℕ) (refused : List (ℕ × NoRoom)) → AreRefused full chosen refused
+    → AllByRecursion (λ p. full p ≡ false) chosen → list_any (λ r. is_full_word r.1) refused ≡ false
+none_named full chosen refused are room =
+    let unnamed : AllByRecursion (λ p. is_named_full refused p ≡ false) chosen =
+    All-imply (λ p. (full p ≡ is_named_full refused p) × (full p ≡ false)) (λ p. is_named_full refused p ≡ false)
+    (λ p h. sym h.0 ∙ h.1) chosen (All-both (λ p. full p ≡ is_named_full refused p) (λ p. full p ≡ false) chosen are.1 room)
+    in
+    let listed : AllByRecursion (λ p. is_named_full refused p ≡ false) (map (λ r. r.0) refused) =
+    subst (λ ps. AllByRecursion (λ p. is_named_full refused p ≡ false) ps) (sym are.0)
+    (All-passed (λ p. is_named_full refused p ≡ false) (is_refused refused) chosen unnamed) in
+    let each = All-both (λ r. is_named_full refused r.0 ≡ false) (λ r. (k : ℕ) × (slice_get refused k ≡ Some r)) refused
+    (All-unmap (λ p. is_named_full refused p ≡ false) (λ r. r.0) refused listed) (All-placed refused) in
+    false-unless (list_any (λ r. is_full_word r.1) refused)
+    (λ some.
+    let found = list_any-found
+    (λ r. (is_named_full refused r.0 ≡ false) × ((k : ℕ) × (slice_get refused k ≡ Some r)))
+    (λ r. is_full_word r.1) refused some each in
+    let r = found.0 in
+    let here : (r.0 == r.0 && is_full_word r.1) ≡ true = ap (λ b. b && is_full_word r.1) (eqb-refl r.0) ∙ found.2 in
+    true-false (is_named_full refused r.0)
+    (list_any-at (λ s. s.0 == r.0 && is_full_word s.1) refused found.1.1.0 r found.1.1.1 here) found.1.0)
+
+-- a step of receiving, with room at the other ports, refuses no copy because a queue is full
+relayed_whole : (rules : Rules) (plan : Plan) (b q : ℕ) (earlier : List Step) (item : Item) (learnt : Option Learnt)
+    (chosen : List ℕ) (refused : List (ℕ × NoRoom)) (moved : Option Moved) (g : Ruling)
+    → HasRoomBeside plan b earlier q
+    → Follows rules plan b earlier q item learnt (Relayed chosen refused) moved g
+    → list_any (λ r. is_full_word r.1) refused ≡ false
+relayed_whole rules plan b q earlier item learnt chosen refused moved (Refuses r) room h = let e = h.1 in cc
+relayed_whole rules plan b q earlier item learnt chosen refused moved Listens room (inl h) = let e = h.1 in cc
+relayed_whole rules plan b q earlier item learnt chosen refused moved Listens room (inr h) = let e = h.1 in cc
+relayed_whole rules plan b q earlier item learnt chosen refused moved (LearnsOnly v) room h = let e = h.1 in cc
+relayed_whole rules plan b q earlier item learnt chosen refused moved (Carries v) room (inl h) = let e = h.1 in cc
+relayed_whole rules plan b q earlier item learnt chosen refused moved (Carries v) room (inr h) =
+    let class = class_of (priority_in (port_at plan b q) item.wire) in
+    let step = Receive q item learnt (Relayed chosen refused) moved in
+    let still : moved_of step ≡ [] = ap (λ m. moved_of (Receive q item learnt (Relayed chosen refused) m)) h.2 in
+    none_named (is_full plan b earlier class) chosen refused h.1.1
+    (subst (λ ps. AllByRecursion (λ p. is_full plan b earlier class p ≡ false) ps) (sym h.1.0)
+    (chosen_have_room plan b q v class earlier step item.wire room still))
+relayed_whole rules plan b q earlier item learnt chosen refused moved Closed room h = absurd h
+
+pub received_whole : (rules : Rules) (plan : Plan) (b q : ℕ) (earlier : List Step) (item : Item)
+    (learnt : Option Learnt) (outcome : Outcome) (moved : Option Moved)
+    → HasRoomBeside plan b earlier q → Fits rules plan b earlier (Receive q item learnt outcome moved)
+    → refuses_when_full (Receive q item learnt outcome moved) ≡ false
+received_whole rules plan b q earlier item learnt (Relayed chosen refused) moved room fits =
+    relayed_whole rules plan b q earlier item learnt chosen refused moved (ruling rules plan b earlier q item) room fits
+received_whole rules plan b q earlier item learnt (Filtered reason) moved room fits = refl
+received_whole rules plan b q earlier item learnt Heard moved room fits = refl
+
+-- a list of steps that refuse nothing because of a full queue, and one more such step
+pub one_more_whole : (steps news : List Step) (step : Step) → news ≡ steps ++ step ∷ []
+    → list_any refuses_when_full steps ≡ false → refuses_when_full step ≡ false
+    → list_any refuses_when_full news ≡ false
+one_more_whole steps news step grown whole one = ap (list_any refuses_when_full) grown ∙ appended steps whole
+  where
+    appended : (ss : List Step) → list_any refuses_when_full ss ≡ false
+        → list_any refuses_when_full (ss ++ step ∷ []) ≡ false
+    appended [] e = grind (one)
+    appended (s ∷ ss) e = grind (appended ss, e, one)
+
+-- the plan uses each port that is Forwarding
+pub forwarding_is_used : (plan : Plan) (b n : ℕ) (steps : List Step) → IsNumber n 16
+    → numbered (states_after plan b steps) n ≡ Some Forwarding → is_used (port_at plan b n) ≡ true
+forwarding_is_used plan b n steps number there =
+    let state : state_after plan b steps n ≡ Forwarding =
+    Some-injective (sym (number-local n number (state_after plan b steps)) ∙ there) in
+    by (port_at plan b n) refl state
+  where
+    by : (p : Port) → port_at plan b n ≡ p → state_after plan b steps n ≡ Forwarding → is_used p ≡ true
+    by (Customer c) at e = refl
+    by (Provider d) at e = refl
+    by Unused at e =
+        let idle : state_after plan b steps n ≡ Discarding =
+        ap (λ p. state_by plan.spanning p n (changes_of steps)) at in
+        cc
