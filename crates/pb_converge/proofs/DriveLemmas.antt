@@ -1,5 +1,5 @@
 -- Events that were performed one after the other.
-use Rattle.std.proofs.Common.{◌≡◌, ◌≤◌, ◌+◌, ◌-◌, ℕ, Bool, true, List, [], ◌∷◌, ◌++◌, length, Ok, Err, refl, ap}
+use Rattle.std.proofs.Common.{◌≡◌, ◌≤◌, ◌<◌, ◌+◌, ◌-◌, ℕ, Bool, true, List, [], ◌∷◌, ◌++◌, length, Ok, Err, refl, sym, ap}
 use Rattle.std.proofs.Common.{subst, ◌∙◌, arith, length-append}
 use Rattle.pb_frame.proofs.Lists.{All-append, All-imply}
 use Rattle.pb_lan.specs.declared.event.Event.{Event}
@@ -13,8 +13,9 @@ use Rattle.pb_net.specs.declared.did.Did.TheVariants.{Idle, Done}
 use Rattle.pb_net.specs.declared.fault.NetFault.{NetFault}
 use Rattle.pb_net.specs.declared.fault.NetFault.TheVariants.{StepLimit, Memory, NoSuch}
 use Rattle.pb_converge.specs.Drives.{is_onward, is_onward_or_tick, HaveDone, HaveGone, HasStopped, HasBeenDriven}
+use Rattle.pb_converge.specs.Drives.{IsAtLimit, IsReason, IsRefusal}
 use Rattle.pb_converge.specs.declared.fault.DriveFault.{DriveFault}
-use Rattle.pb_converge.specs.declared.fault.DriveFault.TheVariants.{Events}
+use Rattle.pb_converge.specs.declared.fault.DriveFault.TheVariants.{Memory as drive_memory, Steps, Events}
 
 -- two runs of events in a row are one
 pub done-append : (old mid new : NetView) (front back : List Event) → HaveDone old front mid → HaveDone mid back new
@@ -67,25 +68,69 @@ gone-append kind a b old mid new f s = record {
   number = omega (arith, length-append f.events s.events, f.number, s.number);
 }
 
+-- an event that was due at a place that may take no more steps
+pub at_limit : (old new : NetView) (event : Event) → IsAnswer old event (Err StepLimit) new → IsAtLimit new
+at_limit old new event h =
+    subst (λ v. IsAtLimit v) (sym h.3) (record { event = event; named = h.0; busy = h.1; full = h.2 })
+
+-- the reason why an event was not performed is one to end early
+pub refusal_is_reason : (fault : DriveFault) (most count : ℕ) (net : NetView) → IsRefusal fault net
+    → IsReason fault most count net
+refusal_is_reason drive_memory most count net h = tt
+refusal_is_reason Steps most count net h = h
+refusal_is_reason Events most count net h = absurd h
+
+-- a reason to end early is one with earlier events too
+pub reason-later : (fault : DriveFault) (most a b c : ℕ) (net : NetView) → a ≤ most → a ≤ b
+    → IsReason fault (most - a) c net → IsReason fault most (b + c) net
+reason-later drive_memory most a b c net within least h = tt
+reason-later Steps most a b c net within least h = h
+reason-later Events most a b c net within least h =
+    let rest : most - a < c = h in
+    omega (arith, within, least, rest)
+
+pub reason-more : (fault : DriveFault) (most b c : ℕ) (net : NetView) → IsReason fault most c net
+    → IsReason fault most (b + c) net
+reason-more drive_memory most b c net h = tt
+reason-more Steps most b c net h = h
+reason-more Events most b c net h =
+    let past : most < c = h in
+    omega (arith, past)
+
 pub stopped-over : (most : ℕ) (old new : NetView) (event : Event) (place : Place) → most ≡ 0 → is_onward event ≡ true
     → IsAnswer old event (Ok (Done place)) new → HasStopped most Events old new
 stopped-over most old new event place z is h =
+    let past : most < 1 = omega (arith, z) in
     record {
       count = 1;
       gone = gone-one is_onward old new event place is h;
       too_many = λ _. omega (arith, z);
       within =
           λ other. absurd (other refl);
+      reason = past;
     }
+
+pub stopped-full : (most : ℕ) (old new : NetView) (event : Event) → IsAnswer old event (Err StepLimit) new
+    → HasStopped most Steps old new
+stopped-full most old new event h = record {
+  count = 0;
+  gone = gone-none is_onward old new h.3;
+  too_many = λ e. cc;
+  within = λ other. omega arith;
+  reason = at_limit old new event h;
+}
 
 pub stopped-later : (most a : ℕ) (fault : DriveFault) (old mid new : NetView) → HaveGone is_onward a old mid
     → a ≤ most → HasStopped (most - a) fault mid new → HasStopped most fault old new
-stopped-later most a fault old mid new g within s = record {
-  count = a + s.count;
-  gone = gone-append is_onward a s.count old mid new g s.gone;
-  too_many = λ is. omega (arith, s.too_many is, within);
-  within = λ other. omega (arith, s.within other, within);
-}
+stopped-later most a fault old mid new g within s =
+    let least : a ≤ a = omega arith in
+    record {
+      count = a + s.count;
+      gone = gone-append is_onward a s.count old mid new g s.gone;
+      too_many = λ is. omega (arith, s.too_many is, within);
+      within = λ other. omega (arith, s.within other, within);
+      reason = reason-later fault most a a s.count new within least s.reason;
+    }
 
 -- an event that carries on what is on its way is one of the wider kind with ticks
 is_wider : (event : Event) → is_onward event ≡ true → is_onward_or_tick event ≡ true
@@ -99,15 +144,13 @@ is_wider (Admin bridge port up) h = h
 is_wider (Take lane) h = refl
 is_wider (Put lane) h = refl
 
-pub driven-gone : (count : ℕ) (old new : NetView) → HaveGone is_onward count old new → HasBeenDriven old new
-driven-gone count old new g = record {
-  count = count;
-  gone = record {
-    events = g.events;
-    kinds = All-imply (λ e. is_onward e ≡ true) (λ e. is_onward_or_tick e ≡ true) is_wider g.events g.kinds;
-    done = g.done;
-    number = g.number;
-  };
+pub gone-wider : (count : ℕ) (old new : NetView) → HaveGone is_onward count old new
+    → HaveGone is_onward_or_tick count old new
+gone-wider count old new g = record {
+  events = g.events;
+  kinds = All-imply (λ e. is_onward e ≡ true) (λ e. is_onward_or_tick e ≡ true) is_wider g.events g.kinds;
+  done = g.done;
+  number = g.number;
 }
 
 pub driven-none : (old new : NetView) → new ≡ old → HasBeenDriven old new

@@ -19,10 +19,11 @@ use Rattle.pb_lan.specs.declared.plan.End.{End}
 use Rattle.pb_lan.specs.declared.plan.LinkPlan.{LinkPlan}
 use Rattle.pb_net.specs.Answers.{NetView}
 use Rattle.pb_converge.proofs.DriveLemmas.{done-append}
-use Rattle.pb_converge.specs.Drives.{HaveDone}
+use Rattle.pb_converge.specs.Drives.{HasBroken, HaveDone, IsRefusal}
 use Rattle.pb_converge.specs.Falls.{end_name, fails, ends_down, all_down, set_down, downs, fresh, IsClear, Judges}
 use Rattle.pb_converge.specs.Falls.{HaveFallen, IsRefused}
 use Rattle.pb_converge.specs.declared.falling.DownFault.{DownFault}
+use Rattle.pb_converge.specs.declared.fault.DriveFault.{DriveFault}
 
 -- both ends of a link of the plan are ports to other bridges
 pub provider_at : (plan : Plan) → IsSound plan → (items : List LinkPlan) (k : ℕ) (link : LinkPlan) (e : End)
@@ -103,4 +104,16 @@ refused_at plan names k w text fault within is t judged = record {
   w = w;
   there = here_is names k w within is;
   reason = subst (λ z. Judges plan z k (Some fault)) t judged;
+}
+
+-- an event that was not performed, also after others
+pub broken-now : (fault : DriveFault) (old new : NetView) → new ≡ old → IsRefusal fault new → HasBroken fault old new
+broken-now fault old new same h = record { events = []; done = same; refusal = h }
+
+pub broken-later : (fault : DriveFault) (events : List Event) (old mid new : NetView) → HaveDone old events mid
+    → HasBroken fault mid new → HasBroken fault old new
+broken-later fault events old mid new h b = record {
+  events = events ++ b.events;
+  done = done-append old mid new events b.events h b.done;
+  refusal = b.refusal;
 }

@@ -1,17 +1,18 @@
 -- Rounds in which each bridge ticks once.
-use Rattle.std.proofs.Common.{◌≡◌, ◌<◌, ◌+◌, ℕ, zero, suc, true, List, [], ◌∷◌, ◌++◌, map, length, slice_get, is_some}
-use Rattle.std.proofs.Common.{Ok, Err, IfErr, refl, sym, ap, subst, ◌∙◌, arith, append_assoc, append-nil}
+use Rattle.std.proofs.Common.{◌≡◌, ◌≤◌, ◌<◌, ◌+◌, ◌-◌, ℕ, zero, suc, true, List, [], ◌∷◌, ◌++◌, map, length, slice_get, is_some}
+use Rattle.std.proofs.Common.{refl, sym, ap, subst, ◌∙◌, arith, append_assoc, append-nil}
 use Rattle.std.specs.List.{AllByRecursion}
-use Rattle.std.specs.declared.result.Result.{Result}
 use Rattle.pb_frame.proofs.Lists.{All-append}
 use Rattle.pb_lan.specs.Numbering.{numbered, numbers_from}
 use Rattle.pb_lan.specs.declared.event.Event.{Event}
 use Rattle.pb_lan.specs.declared.event.Event.TheVariants.{Tick}
 use Rattle.pb_net.specs.Answers.{NetView}
-use Rattle.pb_converge.proofs.DriveLemmas.{done-append, driven-none, driven-append, driven-gone}
+use Rattle.pb_converge.proofs.DriveLemmas.{done-append, driven-none, gone-append, gone-wider, reason-later, reason-more}
+use Rattle.pb_converge.proofs.DriveLemmas.{refusal_is_reason}
 use Rattle.pb_converge.specs.Drives.{is_onward_or_tick, HaveDone, HasBeenDriven, HasStopped, HasTicked, IsRound}
-use Rattle.pb_converge.specs.Drives.{AreRounds}
+use Rattle.pb_converge.specs.Drives.{AreRounds, HasFailed, IsRefusal}
 use Rattle.pb_converge.specs.declared.fault.DriveFault.{DriveFault}
+use Rattle.pb_converge.specs.declared.fault.DriveFault.TheVariants.{Memory}
 
 -- the ticks of the first bridges
 pub ticks_to : ℕ → List Event
@@ -88,21 +89,36 @@ pub driven-ticked : (old new : NetView) → HasTicked old new → HasBeenDriven 
 driven-ticked old new h = driven-ticks (length old.plan.bridges) old new
     (subst (λ es. HaveDone old es new) (sym (ticks_to-all old.plan.bridges)) h)
 
-pub driven-round : (count : ℕ) (old new : NetView) → IsRound count old new → HasBeenDriven old new
-driven-round count old new r = driven-append old r.ticked new (driven-ticked old r.ticked r.ticks)
-    (driven-gone count r.ticked new r.drained.gone)
+pub driven-round : (count : ℕ) (old new : NetView) → IsRound count old new
+    → (d : HasBeenDriven old new) × (count ≤ d.count)
+driven-round count old new r =
+    let d = driven-ticked old r.ticked r.ticks in
+    let least : count ≤ d.count + count = omega arith in (
+      record {
+        count = d.count + count;
+        gone = gone-append is_onward_or_tick d.count count old r.ticked new d.gone
+            (gone-wider count r.ticked new r.drained.gone);
+      },
+      least,
+    )
 
--- an error after the ticks of a round
-pub driven-stopped : (most : ℕ) (fault : DriveFault) (old mid new : NetView) → HasTicked old mid
-    → HasStopped most fault mid new → HasBeenDriven old new
-driven-stopped most fault old mid new t s = driven-append old mid new (driven-ticked old mid t)
-    (driven-gone s.count mid new s.gone)
+-- an error of a tick, or of an event after the ticks of a round
+pub failed-ticks : (most : ℕ) (fault : DriveFault) (old new : NetView) → HasBeenDriven old new → IsRefusal fault new
+    → HasFailed most fault old new
+failed-ticks most fault old new d h =
+    record { driven = d; reason = refusal_is_reason fault most d.count new h }
 
--- what every error implies
-pub on_error : {A E : Type 0} {P : E → Type 0} {Q : Type 0} (r : Result A E) → ((e : E) → P e → Q) → IfErr r P
-    → IfErr r (λ _. Q)
-on_error (Ok x) f h = h
-on_error (Err e) f h = f e h
+pub failed-stopped : (most : ℕ) (fault : DriveFault) (old mid new : NetView) → HasTicked old mid
+    → HasStopped most fault mid new → HasFailed most fault old new
+failed-stopped most fault old mid new t s =
+    let d = driven-ticked old mid t in
+    record {
+      driven = record {
+        count = d.count + s.count;
+        gone = gone-append is_onward_or_tick d.count s.count old mid new d.gone (gone-wider s.count mid new s.gone);
+      };
+      reason = reason-more fault most d.count s.count new s.reason;
+    }
 
 -- one more round
 pub rounds-more : (ticks a b : ℕ) (old mid new : NetView) → AreRounds ticks a old mid → IsRound b mid new
@@ -110,7 +126,39 @@ pub rounds-more : (ticks a b : ℕ) (old mid new : NetView) → AreRounds ticks 
 rounds-more ticks a b old mid new rs r = let e : suc ticks ≡ ticks + 1 =
     omega arith in subst (λ n. AreRounds n (a + b) old new) e (mid, a, b, refl, rs, r)
 
-pub driven-rounds : (ticks count : ℕ) (old new : NetView) → AreRounds ticks count old new → HasBeenDriven old new
-driven-rounds zero count old new h = driven-none old new h.1
-driven-rounds (suc ticks) count old new (between, before, more, e, rs, r) = driven-append old between new
-    (driven-rounds ticks before old between rs) (driven-round more between new r)
+pub driven-rounds : (ticks count : ℕ) (old new : NetView) → AreRounds ticks count old new
+    → (d : HasBeenDriven old new) × (count ≤ d.count)
+driven-rounds zero count old new h =
+    let d = driven-none old new h.1 in
+    let least : count ≤ d.count = omega (arith, h.0) in
+    (d, least)
+driven-rounds (suc ticks) count old new (between, before, more, e, rs, r) =
+    let f = driven-rounds ticks before old between rs in
+    let s = driven-round more between new r in
+    let least : count ≤ f.0.count + s.0.count = omega (arith, e, f.1, s.1) in (
+      record {
+        count = f.0.count + s.0.count;
+        gone = gone-append is_onward_or_tick f.0.count s.0.count old between new f.0.gone s.0.gone;
+      },
+      least,
+    )
+
+-- an error after some rounds, and one of a look after them
+pub failed-later : (ticks most a : ℕ) (fault : DriveFault) (old mid new : NetView) → AreRounds ticks a old mid
+    → a ≤ most → HasFailed (most - a) fault mid new → HasFailed most fault old new
+failed-later ticks most a fault old mid new rs within f =
+    let d = driven-rounds ticks a old mid rs in
+    let more = f.driven in
+    record {
+      driven = record {
+        count = d.0.count + more.count;
+        gone = gone-append is_onward_or_tick d.0.count more.count old mid new d.0.gone more.gone;
+      };
+      reason = reason-later fault most a d.0.count more.count new within d.1 f.reason;
+    }
+
+pub failed-look : (ticks most a b : ℕ) (old mid new : NetView) → AreRounds ticks a old mid → IsRound b mid new
+    → HasFailed most Memory old new
+failed-look ticks most a b old mid new rs r =
+    let d = driven-rounds (ticks + 1) (a + b) old new (rounds-more ticks a b old mid new rs r) in
+    record { driven = d.0; reason = tt }

@@ -1,7 +1,7 @@
 -- A network that is driven by events alone.
-use Rattle.std.specs.Prelude.{◌≡◌, ◌≤◌, ◌+◌, ℕ, zero, suc, Bool, true, false, List, [], ◌∷◌, map, length, Some, Ok}
+use Rattle.std.specs.Prelude.{◌≡◌, ◌≤◌, ◌<◌, ◌⊎◌, ◌+◌, ◌-◌, ◌&&◌, ℕ, zero, suc, Bool, true, false, List, [], ◌∷◌, map, length, Some, Ok}
 use Rattle.std.specs.List.{AllByRecursion}
-use Rattle.pb_lan.specs.Events.{place_of, names_something, is_idle}
+use Rattle.pb_lan.specs.Events.{place_of, names_something, is_idle, is_at_limit}
 use Rattle.pb_lan.specs.Numbering.{numbers_from}
 use Rattle.pb_lan.specs.declared.event.Event.{Event}
 use Rattle.pb_lan.specs.declared.event.Event.TheVariants.{Poll, Tick, Admin}
@@ -11,7 +11,7 @@ use Rattle.pb_net.specs.Answers.{NetView, IsAnswer}
 use Rattle.pb_net.specs.declared.did.Did.TheVariants.{Done}
 use Rattle.pb_relay.specs.Settled.{TellsSettled}
 use Rattle.pb_converge.specs.declared.fault.DriveFault.{DriveFault}
-use Rattle.pb_converge.specs.declared.fault.DriveFault.TheVariants.{Events}
+use Rattle.pb_converge.specs.declared.fault.DriveFault.TheVariants.{Memory, Steps, Events}
 use Rattle.pb_converge.specs.declared.rest.Rest.{Rest}
 use Rattle.pb_converge.specs.declared.rest.Rest.TheVariants.{Given, Settled, Unsettled}
 
@@ -50,17 +50,62 @@ pub record HasDrained (count : ℕ) (old new : NetView) : Type 0 where
   pub gone : HaveGone is_onward count old new
   pub none_due : (event : Event) → is_onward event ≡ true → IsNotDue new event
 
+-- an event is due whose place has taken as many steps as the plan allows
+pub record IsAtLimit (net : NetView) : Type 0 where
+  pub event : Event
+  pub named : names_something net.plan event ≡ true
+  pub busy : is_idle net.plan net.rec event ≡ false
+  pub full : is_at_limit net.plan net.rec event ≡ true
+
+-- why an event was not performed: an allocation failed, or its place has taken as many steps as the plan allows
+abbrev pub IsRefusal : DriveFault → NetView → Type 0
+IsRefusal Memory net = Unit {0}
+IsRefusal Steps net = IsAtLimit net
+IsRefusal Events net = ⊥
+
+-- why driving ended early after this many events: so, or they are more than `most`
+abbrev pub IsReason : DriveFault → ℕ → ℕ → NetView → Type 0
+IsReason Memory most count net = Unit {0}
+IsReason Steps most count net = IsAtLimit net
+IsReason Events most count net = most < count
+
 -- some events were performed, at most `most`, or one more if that is the fault
 pub record HasStopped (most : ℕ) (fault : DriveFault) (old new : NetView) : Type 0 where
   pub count : ℕ
   pub gone : HaveGone is_onward count old new
   pub too_many : fault ≡ Events → count ≡ most + 1
   pub within : (fault ≡ Events → ⊥) → count ≤ most
+  pub reason : IsReason fault most count new
 
 -- some events were performed, among them ticks
 pub record HasBeenDriven (old new : NetView) : Type 0 where
   pub count : ℕ
   pub gone : HaveGone is_onward_or_tick count old new
+
+-- so, and then there was a reason to end early
+pub record HasFailed (most : ℕ) (fault : DriveFault) (old new : NetView) : Type 0 where
+  pub driven : HasBeenDriven old new
+  pub reason : IsReason fault most driven.count new
+
+-- some events were performed, and the next one was not
+pub record HasBroken (fault : DriveFault) (old new : NetView) : Type 0 where
+  pub events : List Event
+  pub done : HaveDone old events new
+  pub refusal : IsRefusal fault new
+
+-- some events were performed one after the other, and then one was due at a place that may take no more steps, or they
+-- are more than `most`
+pub record ReachesLimit (most : ℕ) (old : NetView) : Type 0 where
+  pub events : List Event
+  pub new : NetView
+  pub done : HaveDone old events new
+  pub limit : IsAtLimit new ⊎ (most < length events)
+
+-- why driving a network ended with a fault: a limit was reached, unless an allocation failed
+abbrev pub IsCaused : ℕ → DriveFault → NetView → Type 0
+IsCaused most Memory old = Unit {0}
+IsCaused most Steps old = ReachesLimit most old
+IsCaused most Events old = ReachesLimit most old
 
 -- each bridge has ticked once, in the plan's order
 abbrev pub HasTicked : NetView → NetView → Type 0
@@ -89,10 +134,28 @@ abbrev pub HasStood : Spanning → ℕ → ℕ → NetView → NetView → Type 
 HasStood Fixed ticks events old new = new ≡ old
 HasStood Rstp ticks events old new = HasGoneRound ticks events old new
 
--- the plan gives the states and nothing was done, or the bridges are settled after rounds within the limits, or the
--- limit of ticks is reached
+-- this many rounds and one more: `before` says whether the bridges were settled before the last, and `after` whether
+-- they are settled after it
+pub record HasLooked (rounds : ℕ) (before after : Bool) (old new : NetView) : Type 0 where
+  pub between : NetView
+  pub count : ℕ
+  pub gone : AreRounds rounds count old between
+  pub more : ℕ
+  pub last : IsRound more between new
+  pub told_before : TellsSettled between.plan between.rec (Some before)
+  pub told_after : TellsSettled new.plan new.rec (Some after)
+
+-- after one of the last two rounds of so many the bridges were not settled
+abbrev pub WasUnsettled : ℕ → NetView → NetView → Type 0
+WasUnsettled ticks old new =
+    (before : Bool) × (after : Bool) × HasLooked (ticks - 1) before after old new × ((before && after) ≡ false)
+
+-- the plan gives the states and nothing was done; or the bridges were settled after the last two rounds, within the
+-- limits; or the limit of ticks is reached, and they were not settled after two rounds in a row
 abbrev pub HasRested : ℕ → ℕ → Rest → NetView → NetView → Type 0
 HasRested most events Given old new = (old.plan.spanning ≡ Fixed) × (new ≡ old)
 HasRested most events (Settled ticks) old new =
-    (old.plan.spanning ≡ Rstp) × (2 ≤ ticks) × (ticks ≤ most) × HasGoneRound ticks events old new × TellsSettled new.plan new.rec (Some true)
-HasRested most events (Unsettled ticks) old new = (old.plan.spanning ≡ Rstp) × (ticks ≡ most) × HasGoneRound ticks events old new
+    (old.plan.spanning ≡ Rstp) × (2 ≤ ticks) × (ticks ≤ most) × HasGoneRound ticks events old new
+    × TellsSettled new.plan new.rec (Some true) × HasLooked (ticks - 1) true true old new
+HasRested most events (Unsettled ticks) old new =
+    (old.plan.spanning ≡ Rstp) × (ticks ≡ most) × HasGoneRound ticks events old new × (2 ≤ ticks → WasUnsettled ticks old new)

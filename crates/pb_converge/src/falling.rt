@@ -1,11 +1,11 @@
 //! Disables the ends of links that arguments name.
 
-ghost use Rattle.std.specs.Prelude.{◌≡◌, ◌∷◌, [], map, true, IfOk, OnOk};
+ghost use Rattle.std.specs.Prelude.{◌≡◌, ◌∷◌, [], map, true, IfOk, IfErr, MatchResult, OnOk};
 ghost use Rattle.std.specs.List.{filter};
 ghost use Rattle.pb_frame.specs.Admission.{same};
 ghost use Rattle.pb_lan.specs.Plans.{IsSound};
 ghost use Rattle.pb_lan.specs.Ports.{is_provider, port_at};
-ghost use Rattle.pb_converge.specs.Drives.{HaveDone};
+ghost use Rattle.pb_converge.specs.Drives.{HasBroken, HaveDone};
 ghost use Rattle.pb_converge.specs.Falls.{
   all_down,
   ends_down,
@@ -135,6 +135,7 @@ fn fall(net: &mut Net, plan: &Plan, end: &End) -> Result<(), DriveFault>
     requires there { is_provider (port_at plan.now end.now.bridge end.now.port) ≡ true }
     ensures plan { OnOk result (net.new.plan ≡ plan.now) }
     ensures done { OnOk result (HaveDone net.old (set_down end.now ∷ []) net.new) }
+    ensures err { IfErr result (λ fault. HasBroken fault net.old net.new) }
 {
     let (bridge, port, up) = (end.bridge, end.port, false);
     match net.step(Event::Admin { bridge, port, up }) {
@@ -162,6 +163,7 @@ fn fall_if_named(
     ensures plan { OnOk result (net.new.plan ≡ plan.now) }
     ensures done { OnOk result (HaveDone net.old
         (map set_down (filter (λ e. same name.now (end_name plan.now e)) (end.now ∷ []))) net.new) }
+    ensures err { IfErr result (λ fault. HasBroken fault net.old net.new) }
 {
     if is_named(alloc, plan, end, name)? {
         fall(net, plan, end)?;
@@ -200,6 +202,7 @@ fn fall_link(
     requires b { is_provider (port_at plan.now link.now.b.bridge link.now.b.port) ≡ true }
     ensures plan { OnOk result (net.new.plan ≡ plan.now) }
     ensures done { OnOk result (HaveDone net.old (map set_down (ends_down plan.now name.now link.now)) net.new) }
+    ensures err { IfErr result (λ fault. HasBroken fault net.old net.new) }
 {
     if fails(plan, name, link) {
         fall(net, plan, &link.a)?;
@@ -220,6 +223,7 @@ fn fall_named(alloc: Global, net: &mut Net, plan: &Plan, name: &str) -> Result<(
     requires plan { net.old.plan ≡ plan.now }
     ensures plan { OnOk result (net.new.plan ≡ plan.now) }
     ensures done { OnOk result (HaveDone net.old (map set_down (all_down plan.now name.now)) net.new) }
+    ensures err { IfErr result (λ fault. HasBroken fault net.old net.new) }
 {
     for link in plan.links.as_slice() {
         fall_link(alloc, net, plan, name, link)?;
@@ -245,7 +249,8 @@ pub fn disables(
 ) -> Result<Option<DownFault>, DriveFault>
     requires sound { IsSound plan.now }
     requires fresh { net.old ≡ fresh plan.now }
-    ensures { IfOk result (λ fault. AnswersFalls plan.now names.now fault net.new) }
+    ensures { MatchResult result (λ fault. AnswersFalls plan.now names.now fault net.new)
+        (λ fault. HasBroken fault net.old net.new) }
 {
     for (index, name) in names.iter().enumerate() {
         match judge(alloc, plan, name.as_str(), index)? {

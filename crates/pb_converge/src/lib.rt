@@ -1,5 +1,5 @@
 //! Drives a network to quiescence (`drain`) and its bridges to convergence (`settle`) and on (`stand`), over pb_net.
-//! `falls` disables the links, bridges and ports that a command's arguments name first. Begin reading at `settle`.
+//! `disables` disables the links, bridges and ports that a command's arguments name first. Begin reading at `settle`.
 #![tactic(auto)]
 
 mod draining;

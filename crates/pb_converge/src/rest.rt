@@ -8,6 +8,6 @@ pub enum Rest {
     /// The bridges were settled after two rounds in a row, the second after this many ticks of each bridge.
     Settled(u32),
     /// Each bridge ticked as often as was allowed, this many times, and they were not settled after two rounds in a
-    /// row.
+    /// row: after the last round or the one before it they were not, or there was at most one round.
     Unsettled(u32),
 }

@@ -7,7 +7,7 @@ ghost use Rattle.pb_lan.specs.declared.plan.Spanning.TheVariants.{Rstp as by_pro
 ghost use Rattle.pb_lan.specs.declared.step.Place.TheVariants.{Bridge};
 ghost use Rattle.pb_relay.specs.Settled.{TellsSettled};
 ghost use Rattle.pb_converge.specs.Drives.{HaveDone, HasBeenDriven, HasTicked, IsRound, HasGoneRound, HasStood};
-ghost use Rattle.pb_converge.specs.Drives.{HasRested};
+ghost use Rattle.pb_converge.specs.Drives.{HasFailed, HasRested, IsRefusal};
 
 use crate::draining::drain;
 use crate::fault::DriveFault;
@@ -27,6 +27,7 @@ fn tick(net: &mut Net, bridge: u8) -> Result<(), DriveFault>
     ensures plan { net.new.plan ≡ net.old.plan }
     ensures ok { OnOk result (HaveDone net.old (Event.Tick bridge ∷ []) net.new) }
     ensures err { IfErr result (λ _. net.new ≡ net.old) }
+    ensures refusal { IfErr result (λ fault. IsRefusal fault net.new) }
 {
     match net.step(Event::Tick { bridge }) {
         Ok(_) => Ok(()),
@@ -43,6 +44,7 @@ fn tick_all(net: &mut Net, plan: &Plan) -> Result<(), DriveFault>
     ensures plan { net.new.plan ≡ plan.now }
     ensures ok { OnOk result (HasTicked net.old net.new) }
     ensures err { IfErr result (λ _. HasBeenDriven net.old net.new) }
+    ensures refusal { IfErr result (λ fault. IsRefusal fault net.new) }
 {
     for place in 0..plan.bridges.len() {
         tick(net, place as u8 + 1)?;
@@ -58,7 +60,7 @@ fn round(net: &mut Net, plan: &Plan, left: u64) -> Result<u64, DriveFault>
     ensures plan { net.new.plan ≡ plan.now }
     ensures within { IfOk result (λ done. done ≤ left) }
     ensures ok { IfOk result (λ done. IsRound done net.old net.new) }
-    ensures err { IfErr result (λ _. HasBeenDriven net.old net.new) }
+    ensures err { IfErr result (λ fault. HasFailed left fault net.old net.new) }
 {
     tick_all(net, plan)?;
     drain(net, plan, left)
@@ -71,7 +73,8 @@ fn round(net: &mut Net, plan: &Plan, left: u64) -> Result<u64, DriveFault>
 /// `Memory` if an allocation failed.
 fn look(alloc: Global, net: &Net) -> Result<bool, DriveFault>
     requires { net.now.plan.spanning ≡ by_protocol }
-    ensures { IfOk result (λ yes. TellsSettled net.now.plan net.now.rec (Some yes)) }
+    ensures ok { IfOk result (λ yes. TellsSettled net.now.plan net.now.rec (Some yes)) }
+    ensures err { IfErr result (λ fault. fault ≡ DriveFault.Memory) }
 {
     let Some(settled) = net.settled(alloc)? else {
         unreachable!();
@@ -92,7 +95,7 @@ fn rounds(
     requires protocol { plan.now.spanning ≡ by_protocol }
     ensures plan { net.new.plan ≡ plan.now }
     ensures ok { IfOk result (λ rest. HasRested most events rest net.old net.new) }
-    ensures err { IfErr result (λ _. HasBeenDriven net.old net.new) }
+    ensures err { IfErr result (λ fault. HasFailed events fault net.old net.new) }
 {
     let mut was_settled = false;
     let mut done = 0;
@@ -113,7 +116,7 @@ fn go_round(net: &mut Net, plan: &Plan, ticks: u32, events: u64) -> Result<(), D
     requires plan { net.old.plan ≡ plan.now }
     ensures plan { net.new.plan ≡ plan.now }
     ensures ok { OnOk result (HasGoneRound ticks events net.old net.new) }
-    ensures err { IfErr result (λ _. HasBeenDriven net.old net.new) }
+    ensures err { IfErr result (λ fault. HasFailed events fault net.old net.new) }
 {
     let mut done = 0;
     for _tick in 0..ticks {
@@ -136,7 +139,7 @@ pub fn stand(net: &mut Net, plan: &Plan, ticks: u32, events: u64) -> Result<(), 
     requires plan { net.old.plan ≡ plan.now }
     ensures plan { net.new.plan ≡ plan.now }
     ensures ok { OnOk result (HasStood plan.now.spanning ticks events net.old net.new) }
-    ensures err { IfErr result (λ _. HasBeenDriven net.old net.new) }
+    ensures err { IfErr result (λ fault. HasFailed events fault net.old net.new) }
 {
     match plan.spanning {
         Spanning::Fixed => Ok(()),
@@ -148,7 +151,8 @@ pub fn stand(net: &mut Net, plan: &Plan, ticks: u32, events: u64) -> Result<(), 
 ///
 /// In each round every bridge ticks once, in the plan's order, and [`drain`] performs all that is due then. The rounds
 /// end when the bridges are settled after two in a row, or after `most` of them. The result is `Given`, and nothing is
-/// done, if the plan gives the states of the ports. It is `Unsettled` for each `most` below 2.
+/// done, if the plan gives the states of the ports. It is `Unsettled` for each `most` below 2, and else only if the
+/// bridges were not settled after the last round or after the one before it.
 ///
 /// # Errors
 ///
@@ -165,7 +169,7 @@ pub fn settle(
     requires plan { net.old.plan ≡ plan.now }
     ensures plan { net.new.plan ≡ plan.now }
     ensures ok { IfOk result (λ rest. HasRested most events rest net.old net.new) }
-    ensures err { IfErr result (λ _. HasBeenDriven net.old net.new) }
+    ensures err { IfErr result (λ fault. HasFailed events fault net.old net.new) }
 {
     match plan.spanning {
         Spanning::Fixed => Ok(Rest::Given),

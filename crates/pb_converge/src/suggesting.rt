@@ -70,7 +70,7 @@ fn put_ports(alloc: Global, names: &mut Vec<String>, plan: &Plan) -> Result<(), 
     Ok(())
 }
 
-/// Returns all names that [`falls`](crate::falls) knows: those of links, of bridges and of ends of links.
+/// Returns all names that [`disables`](crate::disables) knows: those of links, of bridges and of ends of links.
 ///
 /// # Errors
 ///

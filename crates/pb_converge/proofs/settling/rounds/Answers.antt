@@ -1,25 +1,28 @@
-use Rattle.std.proofs.Common.{◌≤◌, ◌+◌, Some, arith, ap, subst, ◌∙◌}
+use Rattle.std.proofs.Common.{◌≤◌, ◌+◌, Some, arith, ap, subst, sym, ◌∙◌}
 use Rattle.std.proofs.lemmas.Result.{err_from_is_err_and}
 use Rattle.pb_relay.specs.Settled.{TellsSettled}
-use Rattle.pb_converge.proofs.DriveLemmas.{driven-append}
-use Rattle.pb_converge.proofs.TickLemmas.{driven-rounds, driven-round, rounds-more}
+use Rattle.pb_converge.proofs.LookLemmas.{looked-twice, not_both, unsettled-more}
+use Rattle.pb_converge.proofs.TickLemmas.{failed-later, failed-look, rounds-more}
+use Rattle.pb_converge.specs.Drives.{HasFailed}
 use Rattle.pb_converge.proofs.settling.rounds.Goals as goal
 
 pub returns-in_err-done-clause-err : goal.returns-in_err-done-clause-err
 returns-in_err-done-clause-err c =
     let p = err_from_is_err_and c.from_residual.result c.from_residual.ensures.1 in
     let before = c.loop-ticks.invariant in
-    rw p.1 (driven-append c.args.net.now c.loop-ticks.net c.round.new.net
-    (driven-rounds c.loop-ticks.ticks c.loop-ticks.done c.args.net.now c.loop-ticks.net before.rounds)
-    c.in_err-done.ensures.err)
+    let new = c.round.new.net in
+    let f = failed-later c.loop-ticks.ticks c.args.events c.loop-ticks.done c.in_err-done.field-0.0 c.args.net.now
+    c.loop-ticks.net new before.rounds before.within c.in_err-done.ensures.err in
+    rw p.1 (subst (λ e. HasFailed c.args.events e c.args.net.now new) (sym p.2) f)
 
 pub returns-in_err-is_settled-clause-err : goal.returns-in_err-is_settled-clause-err
 returns-in_err-is_settled-clause-err c =
     let p = err_from_is_err_and c.from_residual-in_err-is_settled.result c.from_residual-in_err-is_settled.ensures.1 in
     let before = c.loop-ticks.invariant in
-    rw p.1 (driven-append c.args.net.now c.loop-ticks.net c.round.new.net
-    (driven-rounds c.loop-ticks.ticks c.loop-ticks.done c.args.net.now c.loop-ticks.net before.rounds)
-    (driven-round c.in_ok-done.field-0 c.loop-ticks.net c.round.new.net c.in_ok-done.ensures.ok))
+    let new = c.round.new.net in
+    let f = failed-look c.loop-ticks.ticks c.args.events c.loop-ticks.done c.in_ok-done.field-0 c.args.net.now
+    c.loop-ticks.net new before.rounds c.in_ok-done.ensures.ok in
+    rw p.1 (subst (λ e. HasFailed c.args.events e c.args.net.now new) (sym (p.2 ∙ c.in_err-is_settled.ensures.err)) f)
 
 pub returns-then-is_settled-clause-ok : goal.returns-then-is_settled-clause-ok
 returns-then-is_settled-clause-ok c =
@@ -35,5 +38,27 @@ returns-then-is_settled-clause-ok c =
         within = omega (arith, before.within, c.in_ok-done.ensures.within);
       },
       subst (λ yes. TellsSettled c.round.new.net.plan c.round.new.net.rec (Some yes)) c.if-is_settled.true
-          c.in_ok-is_settled.ensures,
+          c.in_ok-is_settled.ensures.ok,
+      looked-twice c.loop-ticks.ticks c.loop-ticks.done c.in_ok-done.field-0 c.loop-ticks.was_settled
+          c.in_ok-is_settled.is_settled c.args.net.now c.loop-ticks.net c.round.new.net before.rounds
+          c.in_ok-done.ensures.ok (before.told seen) c.in_ok-is_settled.ensures.ok c.if-was_settled.true
+          c.if-is_settled.true,
     )
+
+pub loop-ticks-preserved : goal.loop-ticks-preserved
+loop-ticks-preserved c =
+    let before = c.loop-ticks.invariant in
+    record {
+      rounds = rounds-more c.loop-ticks.ticks c.loop-ticks.done c.in_ok-done.field-0 c.args.net.now c.loop-ticks.net
+          c.round.new.net before.rounds c.in_ok-done.ensures.ok;
+      within = omega (arith, before.within, c.in_ok-done.ensures.within);
+      plan = c.in_ok-done.ensures.plan;
+      seen = λ is. omega arith;
+      told = λ one. c.in_ok-is_settled.ensures.ok;
+      unsettled = λ two.
+          let one : 1 ≤ c.loop-ticks.ticks = omega (arith, two) in
+          unsettled-more c.loop-ticks.ticks c.loop-ticks.done c.in_ok-done.field-0 c.loop-ticks.was_settled
+          c.in_ok-is_settled.is_settled c.args.net.now c.loop-ticks.net c.round.new.net before.rounds
+          c.in_ok-done.ensures.ok (before.told one) c.in_ok-is_settled.ensures.ok
+          (not_both c.loop-ticks.was_settled c.in_ok-is_settled.is_settled c.else-was_settled.either);
+    }

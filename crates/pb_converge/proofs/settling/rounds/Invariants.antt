@@ -1,5 +1,6 @@
-use Rattle.std.proofs.Common.{◌≡◌, ◌≤◌, true}
-use Rattle.pb_converge.specs.Drives.{AreRounds}
+use Rattle.std.proofs.Common.{◌≡◌, ◌≤◌, true, Some}
+use Rattle.pb_relay.specs.Settled.{TellsSettled}
+use Rattle.pb_converge.specs.Drives.{AreRounds, WasUnsettled}
 use Rattle.pb_converge.proofs.settling.rounds.Given as goal
 
 abbrev pub invariant-loop-ticks : goal.invariant-loop-ticks
@@ -8,4 +9,6 @@ invariant-loop-ticks l = record {
   within : l.done ≤ l.events;
   plan : l.net.plan ≡ l.plan;
   seen : l.was_settled ≡ true → 1 ≤ l.ticks;
+  told : 1 ≤ l.ticks → TellsSettled l.net.plan l.net.rec (Some l.was_settled);
+  unsettled : 2 ≤ l.ticks → WasUnsettled l.ticks l.fn.net l.net;
 }
