@@ -1,6 +1,6 @@
 #!/usr/bin/env bash
-# Counts the frames that are missing after a run between captures with queues of the default length: 200,000 broadcasts of
-# 64 octets cross one bridge, and then a line of four. A lossless run misses none; for comparison each runs with
+# Counts the frames that are missing after a run between captures with queues of the default length: 200,000 broadcasts
+# of 64 octets cross one bridge, and then a line of four. A lossless run misses none; for comparison each runs with
 # `lossless = false` too. The exit status is 1 if a lossless run misses one.
 set -eu
 cd -- "$(dirname -- "$0")/.."
@@ -10,7 +10,7 @@ frames=200000
 folder=$(mktemp -d)
 trap 'rm -rf -- "$folder"' EXIT
 
-# Prints a plan of $1 bridges in a line, between a capture at the first and one at the last, with this value of `lossless`.
+# Prints a plan of $1 bridges in a line, between captures at the first and the last. $2 is the value of `lossless`.
 plan() {
     local b port
     printf '[network]\nlossless = %s\n[[service]]\nname = "lan"\nvid = 100\n' "$2"
@@ -22,17 +22,18 @@ plan() {
     done
     for port in 3 4; do
         if [ "$port" = 3 ]; then b=1 read=all; else b=$1 read=none; fi
-        printf '[[port]]\nname = "C%d"\nbridge = "B%d"\nport = %d\nservice = "lan"\nkind = "capture"\n' "$port" "$b" "$port"
+        printf '[[port]]\nname = "C%d"\nbridge = "B%d"\nport = %d\n' "$port" "$b" "$port"
+        printf 'service = "lan"\nkind = "capture"\n'
         printf 'read = "%s/%s.pcap"\nwrite = "%s/C%d.pcap"\n' "$folder" "$read" "$folder" "$port"
     done
 }
 
 # Writes a capture without a frame, and one with all broadcasts.
 captures() {
-    printf '\324\303\262\241\002\000\004\000\000\000\000\000\000\000\000\000\377\377\000\000\001\000\000\000' >"$folder/none.pcap"
+    perl -e 'print pack("H*", "d4c3b2a1020004000000000000000000ffff000001000000")' >"$folder/none.pcap"
     cp -- "$folder/none.pcap" "$folder/all.pcap"
-    perl -e 'print pack("H*", "00000000000000004000000040000000ffffffffffff0200000001010800" . "0" x 100) for 1 .. shift' \
-        "$frames" >>"$folder/all.pcap"
+    perl -e 'my $record = "00000000000000004000000040000000ffffffffffff0200000001010800" . "0" x 100;
+        print pack("H*", $record) for 1 .. shift' "$frames" >>"$folder/all.pcap"
 }
 
 find_program

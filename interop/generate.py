@@ -43,6 +43,7 @@ def network_table(chance):
     sometimes(chance, 0.03, table, "hold", lambda: chance.choice([0, 1, 1000000]))
     sometimes(chance, 0.7, table, "queues", lambda: chance.choice(["port", "class", "class"]))
     sometimes(chance, 0.6 if table.get("spanning") == "rstp" else 0.02, table, "prompt", lambda: chance.random() < 0.7)
+    sometimes(chance, 0.2, table, "lossless", lambda: chance.choice([True, False, "auto"]))
     return table
 
 

@@ -94,6 +94,7 @@ def are_frames(value):
 
 LOSSES = items(is_number, does_rise)
 SERVICES = items(is_text, are_names)
+FLAG_OR_AUTO = lambda value: is_truth(value) or is_text(value), lambda value: value in (True, False, "auto")
 NONE = object()
 
 KEYS = {
@@ -108,7 +109,7 @@ KEYS = {
         ("hold", number(0, 1000000), 0),
         ("prompt", (is_truth, lambda _: True), False),
         ("queues", word(("port", "class")), "port"),
-        ("lossless", (lambda value: is_truth(value) or is_text(value), lambda value: value in (True, False, "auto")), "auto"),
+        ("lossless", FLAG_OR_AUTO, "auto"),
     ],
     "bridge": [
         ("name", text(NAME), NONE),

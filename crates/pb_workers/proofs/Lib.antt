@@ -1,2 +1,3 @@
 pub mod UsedPorts
+pub mod ReceiveLemmas
 pub mod RoomLemmas

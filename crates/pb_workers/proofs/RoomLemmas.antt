@@ -1,21 +1,19 @@
 -- A frame that is received while the other ports have room is refused by no full queue.
-use Rattle.std.proofs.Common.{◌≡◌, ◌≢◌, ◌<◌, ◌≤◌, ◌==◌, ◌&&◌, ◌++◌, ℕ, zero, suc, Bool, true, false, not, nat_le, List, [], ◌∷◌}
-use Rattle.std.proofs.Common.{Option, Some, None, inl, inr, length, map, slice_get, refl, sym, ap, ◌∙◌, subst, arith}
+use Rattle.std.proofs.Common.{◌≡◌, ◌<◌, ◌≤◌, ◌==◌, ◌&&◌, ◌++◌, ℕ, Bool, true, false, not, nat_le, List, [], ◌∷◌}
+use Rattle.std.proofs.Common.{Option, Some, inl, inr, length, map, slice_get, refl, sym, ap, ◌∙◌, subst, arith}
 use Rattle.std.specs.List.{AllByRecursion, filter, list_any}
 use Rattle.pb_frame.proofs.Lists.{All-both, All-imply, All-passed, All-placed, All-unmap, list_any-at, list_any-found}
-use Rattle.pb_frame.proofs.Lists.{false-unless, true-false, eqb-refl, Some-injective}
+use Rattle.pb_frame.proofs.Lists.{false-unless, true-false, eqb-refl}
 use Rattle.pb_frame.specs.declared.learnt.Learnt.{Learnt}
-use Rattle.pb_lan.proofs.Rulings.{IsChoice, IsLocal, chosen-choice, number-local}
-use Rattle.pb_lan.specs.BridgeLists.{AreRefused, Fits, Follows, IsRelayed, Ruling, ruling, is_full_word, is_named_full}
+use Rattle.pb_lan.proofs.Rulings.{IsChoice, chosen-choice}
+use Rattle.pb_lan.specs.BridgeLists.{AreRefused, Fits, Follows, Ruling, ruling, is_full_word, is_named_full}
 use Rattle.pb_lan.specs.BridgeLists.Ruling.{Refuses, Listens, LearnsOnly, Carries, Closed}
 use Rattle.pb_lan.specs.Choice.{chosen_ports}
 use Rattle.pb_lan.specs.Numbering.{numbered}
-use Rattle.pb_lan.specs.Plans.{IsNumber}
-use Rattle.pb_lan.specs.Ports.{Port, port_at, is_used, local_ports}
-use Rattle.pb_lan.specs.Ports.Port.{Customer, Provider, Unused}
+use Rattle.pb_lan.specs.Ports.{port_at}
 use Rattle.pb_lan.specs.Queues.{Waiting, capacity_of, class_of, is_full, is_full_by, is_refused, priority_in, waiting}
 use Rattle.pb_lan.specs.Rules.{Rules}
-use Rattle.pb_lan.specs.Shapes.{changes_of, is_forwarding, moved_of, state_after, state_by, states_after}
+use Rattle.pb_lan.specs.Shapes.{is_forwarding, moved_of, state_after, states_after}
 use Rattle.pb_lan.specs.declared.plan.Plan.{Plan}
 use Rattle.pb_lan.specs.declared.plan.Queues.{Queues}
 use Rattle.pb_lan.specs.declared.plan.Queues.TheVariants.{PerPort, PerClass}
@@ -29,6 +27,9 @@ use Rattle.pb_lan.specs.declared.step.Outcome.TheVariants.{Relayed, Filtered, He
 use Rattle.pb_lan.specs.declared.step.Step.{Step}
 use Rattle.pb_lan.specs.declared.step.Step.TheVariants.{Receive}
 use Rattle.pb_relay.proofs.StepLemmas.{states_stay}
+use Rattle.pb_relay.specs.Protocol.{spanning_tree}
+use Rattle.pb_relay.specs.Standing.{BridgeView, HasReceived}
+use Rattle.pb_workers.proofs.ReceiveLemmas.{none_later}
 use Rattle.pb_workers.specs.Lossless.{HasRoomBeside, refuses_when_full}
 
 -- a list has at least as many items as pass a test
@@ -124,29 +125,10 @@ received_whole rules plan b q earlier item learnt (Relayed chosen refused) moved
 received_whole rules plan b q earlier item learnt (Filtered reason) moved room fits = refl
 received_whole rules plan b q earlier item learnt Heard moved room fits = refl
 
--- a list of steps that refuse nothing because of a full queue, and one more such step
-pub one_more_whole : (steps news : List Step) (step : Step) → news ≡ steps ++ step ∷ []
-    → list_any refuses_when_full steps ≡ false → refuses_when_full step ≡ false
-    → list_any refuses_when_full news ≡ false
-one_more_whole steps news step grown whole one = ap (list_any refuses_when_full) grown ∙ appended steps whole
-  where
-    appended : (ss : List Step) → list_any refuses_when_full ss ≡ false
-        → list_any refuses_when_full (ss ++ step ∷ []) ≡ false
-    appended [] e = grind (one)
-    appended (s ∷ ss) e = grind (appended ss, e, one)
-
--- the plan uses each port that is Forwarding
-pub forwarding_is_used : (plan : Plan) (b n : ℕ) (steps : List Step) → IsNumber n 16
-    → numbered (states_after plan b steps) n ≡ Some Forwarding → is_used (port_at plan b n) ≡ true
-forwarding_is_used plan b n steps number there =
-    let state : state_after plan b steps n ≡ Forwarding =
-    Some-injective (sym (number-local n number (state_after plan b steps)) ∙ there) in
-    by (port_at plan b n) refl state
-  where
-    by : (p : Port) → port_at plan b n ≡ p → state_after plan b steps n ≡ Forwarding → is_used p ≡ true
-    by (Customer c) at e = refl
-    by (Provider d) at e = refl
-    by Unused at e =
-        let idle : state_after plan b steps n ≡ Discarding =
-        ap (λ p. state_by plan.spanning p n (changes_of steps)) at in
-        cc
+-- a bridge with room at the other ports receives an item, and still has refused none because of a full queue
+pub received_on : (old new : BridgeView) (port : ℕ) (item : Item) (outcome : Outcome)
+    → HasReceived old port item outcome new → HasRoomBeside old.plan old.number old.steps port
+    → list_any refuses_when_full old.steps ≡ false → list_any refuses_when_full new.steps ≡ false
+received_on old new port item outcome has room whole =
+    none_later refuses_when_full old.steps new.steps (Receive port item has.0 outcome has.1) (ap (λ b. b.steps) has.2) whole
+    (received_whole spanning_tree old.plan old.number port old.steps item has.0 outcome has.1 room has.3)

@@ -23,7 +23,7 @@ use crate::gift::BridgeGift;
 use crate::lane::LaneWorker;
 use crate::mode::Mode;
 use crate::refusal::{Refusal, Taken, turn};
-use crate::room::{has_room_beside, queue_of};
+use crate::room::{has_room_beside, queue_of, take_in};
 use crate::used::used_ports;
 use crate::view::view_of;
 use pb_frame::{Memory, index_of};
@@ -229,9 +229,7 @@ impl<W: Wiring> BridgeWorker<W> {
             return turn(Ok(false), 0, 0);
         };
         let is_marked = item.mark.is_some();
-        let Ok(outcome) = self.bridge.receive(port, item) else {
-            unreachable!();
-        };
+        let outcome = take_in(&mut self.bridge, port, item);
         received(is_marked, &outcome)
     }
 

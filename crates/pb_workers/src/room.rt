@@ -1,14 +1,16 @@
 //! The room in a bridge's queues before it receives.
 
-ghost use Rattle.std.specs.Prelude.{◌≡◌, ◌<◌, true, length, IsTrue};
+ghost use Rattle.std.specs.List.{list_any};
+ghost use Rattle.std.specs.Prelude.{◌≡◌, ◌<◌, true, false, length, IsTrue};
 ghost use Rattle.pb_lan.specs.Plans.{IsNumber};
 ghost use Rattle.pb_lan.specs.Ports.{port_at, is_used};
 ghost use Rattle.pb_lan.specs.Queues.{capacity_of, waiting};
 ghost use Rattle.pb_lan.specs.declared.shape.PortState.TheVariants.{Forwarding};
-ghost use Rattle.pb_workers.specs.Lossless.{HasRoomBeside};
+ghost use Rattle.pb_relay.specs.Standing.{HasReceived};
+ghost use Rattle.pb_workers.specs.Lossless.{HasRoomBeside, refuses_when_full};
 
 use pb_frame::index_of;
-use pb_lan::{Plan, PortState};
+use pb_lan::{Item, Outcome, Plan, PortState};
 use pb_relay::Bridge;
 
 /// Returns the most items that wait at each port of the bridge of this number.
@@ -50,4 +52,19 @@ pub(crate) fn has_room_beside(bridge: &Bridge, queue: u16, port: u8) -> bool
         }
     }
     true
+}
+
+/// Receives an item at a port of a bridge that has reserved a step. If each other Forwarding port has room for one more
+/// item, the step refuses none because a queue is full.
+pub(crate) fn take_in(bridge: &mut Bridge, port: u8, item: Item) -> Outcome
+    requires used { is_used (port_at bridge.old.plan bridge.old.number port) ≡ true }
+    requires reserved { bridge.old.is_reserved ≡ true }
+    ensures step { HasReceived bridge.old port item result bridge.new }
+    ensures whole { HasRoomBeside bridge.old.plan bridge.old.number bridge.old.steps port
+        → list_any refuses_when_full bridge.old.steps ≡ false → list_any refuses_when_full bridge.new.steps ≡ false }
+{
+    let Ok(outcome) = bridge.receive(port, item) else {
+        unreachable!();
+    };
+    outcome
 }
