@@ -48,7 +48,10 @@ fn make_folder(rt: &impl Files, alloc: Global, path: &str) -> io::Result<String>
     };
     for number in 0..MOST_FOLDERS {
         let folder = format!(in alloc; "{parent}/.{number}")?;
-        match DirBuilder::new().mode(FOLDER_MODE).create(rt, folder.as_str()) {
+        match DirBuilder::new()
+            .mode(FOLDER_MODE)
+            .create(rt, folder.as_str())
+        {
             Ok(()) => return Ok(folder),
             Err(e) if e.kind() == ErrorKind::AlreadyExists => {}
             Err(e) => return Err(e),

@@ -125,7 +125,9 @@ impl Bells {
     fn worker(&self, place: Place) -> usize {
         match place {
             Place::Customer(number) => usize::from(number).wrapping_sub(1),
-            Place::Lane(number) => self.customers.wrapping_add(usize::from(number).wrapping_sub(1)),
+            Place::Lane(number) => self
+                .customers
+                .wrapping_add(usize::from(number).wrapping_sub(1)),
             Place::Bridge(number) => self
                 .customers
                 .wrapping_add(self.lanes)

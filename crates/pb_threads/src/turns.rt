@@ -144,7 +144,11 @@ fn rest<T: Work, G: Gate, R: Wait + Clock>(
         let millis = ticks.until_tick(rt, LONGEST);
         if millis > 0 {
             let has_slept = words.bells.doze(rt, place, Duration::from_millis(millis));
-            return if has_slept { millis.saturating_mul(TURNS) } else { 0 };
+            return if has_slept {
+                millis.saturating_mul(TURNS)
+            } else {
+                0
+            };
         }
     }
     let micros = (u64::from(idle) - 60).min(500);

@@ -121,7 +121,9 @@ fn contents<R: Files + Eprint + AllocGlobal, W: Write>(
         Ok(_) if octets.len() as u64 <= MOST_OCTETS => Ok(octets),
         Ok(_) => {
             let status = tell_on(out, CommandFault::Read);
-            let _ = eprintln!(rt; "error: cannot read {path}: it has more than {MOST_OCTETS} octets");
+            let _ = eprintln!(rt;
+                "error: cannot read {path}: it has more than {MOST_OCTETS} octets"
+            );
             Err(status)
         }
         Err(e) if e.kind() == ErrorKind::OutOfMemory => Err(tell_on(out, CommandFault::Memory)),
