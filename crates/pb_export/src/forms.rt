@@ -39,6 +39,6 @@ mod treeing;
 pub use checking::CHECK;
 pub use counting::{COUNTS, RUN, STEP};
 pub use diffing::DIFF;
-pub use surviving::{FAILURES, SURVIVE};
+pub use surviving::{FAILURES, SURVIVE, SURVIVE_BESIDE};
 pub use tracing::TRACE;
 pub use treeing::TREE;

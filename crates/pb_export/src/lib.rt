@@ -21,7 +21,7 @@ mod words;
 
 pub use as_json::json_of;
 pub use faults::FormatFault;
-pub use forms::{CHECK, COUNTS, DIFF, FAILURES, RUN, STEP, SURVIVE, TRACE, TREE};
+pub use forms::{CHECK, COUNTS, DIFF, FAILURES, RUN, STEP, SURVIVE, SURVIVE_BESIDE, TRACE, TREE};
 pub use heads::Head;
 pub use reading::read_report;
 pub use rows::{Field, Filled, Row};

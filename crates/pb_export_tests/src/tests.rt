@@ -12,10 +12,10 @@ ghost use Rattle.pb_export.specs.declared.rows.Row.{Row};
 mod reports;
 
 use pb_export::{
-    CHECK, COUNTS, DIFF, FAILURES, Form, FormatFault, Head, RUN, STEP, SURVIVE, TRACE, TREE, Table,
-    csv_of, json_of,
+    CHECK, COUNTS, DIFF, FAILURES, Form, FormatFault, Head, RUN, STEP, SURVIVE, SURVIVE_BESIDE,
+    TRACE, TREE, Table, csv_of, json_of,
 };
-use reports::{CHANGES, CHECKS, RUNS, STEPS, SURVIVALS, TRACES, TREES};
+use reports::{CHANGES, CHECKS, IMPAIRED, RUNS, STEPS, SURVIVALS, TRACES, TREES};
 use serde_json::Value;
 use std::alloc::Global;
 use std::process::Abort;
@@ -109,6 +109,11 @@ fn trees_are_said(rt: HostRuntime) -> Result<(), Fail> {
 #[test]
 fn survivals_are_said(rt: HostRuntime) -> Result<(), Fail> {
     say(&rt, rt.alloc(), &SURVIVE, SURVIVALS)
+}
+
+#[test]
+fn impaired_survivals_are_said(rt: HostRuntime) -> Result<(), Fail> {
+    say(&rt, rt.alloc(), &SURVIVE_BESIDE, IMPAIRED)
 }
 
 #[test]

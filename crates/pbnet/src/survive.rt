@@ -9,7 +9,7 @@ use crate::{REFUSED, contents, ended};
 use pb_accept::Acceptance;
 use pb_cli::{ReportFormat, SurviveOptions, SurviveScope};
 use pb_cmd_survive::{Asked, Kinds, Scope, SurviveEnd, run_survive};
-use pb_export::{FAILURES, SURVIVE};
+use pb_export::{FAILURES, SURVIVE, SURVIVE_BESIDE};
 use std::fs::Files;
 use std::io::Write;
 use std::process::ExitCode;
@@ -37,14 +37,22 @@ pub(crate) fn tell_survivals<R: Files + Threads + Clock + Print + Eprint + Alloc
 ) -> ExitCode {
     let mut out = Output::new(rt, options.format, head("survive", options.path.as_str()));
     match tell_survivals_on(rt, options, is_shown, &mut out) {
-        Ok(status) => end_report(out, status),
+        Ok(status) if options.downs.is_empty() => end_calm(out, status),
+        Ok(status) => end_impaired(out, status),
         Err(status) => status,
     }
 }
 
-/// Prints the document of the report, if its form is not text. Returns the exit status of the command.
-fn end_report<R: Print + AllocGlobal>(out: Output<'_, R>, status: ExitCode) -> ExitCode {
+/// Prints the document of a report on a network with nothing down at the start, if its form is not text. Returns the exit
+/// status of the command.
+fn end_calm<R: Print + AllocGlobal>(out: Output<'_, R>, status: ExitCode) -> ExitCode {
     out.end(&SURVIVE, Some(&FAILURES), status)
+}
+
+/// Prints the document of a report on a network with something down at the start, if its form is not text. Returns the
+/// exit status of the command.
+fn end_impaired<R: Print + AllocGlobal>(out: Output<'_, R>, status: ExitCode) -> ExitCode {
+    out.end(&SURVIVE_BESIDE, Some(&FAILURES), status)
 }
 
 /// Returns what is asked for, with these acceptances.

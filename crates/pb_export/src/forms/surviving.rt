@@ -38,13 +38,10 @@ const KEEPS_GOING: &[Choice] = choices![(" failures do not converge", Said::No),
 const NEVER: &[Choice] = choices![("", Said::No),];
 
 /// The network is healthy.
-const IS_HEALTHY: &[Choice] = choices![
-    ("with nothing down", Said::Yes),
-    ("with nothing else down", Said::Yes),
-];
+const IS_HEALTHY: &[Choice] = choices![("with nothing down", Said::Yes),];
 
-/// Nothing is down, or nothing besides what was down before.
-const REST: &[Choice] = choices![("down", Said::Nothing), ("else down", Said::Nothing),];
+/// The network is healthy besides what is down from the start.
+const IS_HEALTHY_BESIDE: &[Choice] = choices![("with nothing else down", Said::Yes),];
 
 /// The network is not healthy, and whether its bridges converge.
 const IS_UNHEALTHY: &[Choice] = choices![(", bridges do not converge", Said::No), ("", Said::No),];
@@ -73,17 +70,13 @@ const DOWNS: &[Slot] = slots![("down", Kind::Words, ""),];
 
 /// The network with nothing down.
 const CALM: &[Slot] = slots![
-    ("", Kind::OneOf(REST), ": "),
     ("settled", Kind::OneOf(SETTLED), ""),
     ("ticks", Kind::Number, " forest "),
     ("forest", Kind::OneOf(YES_OR_NO), ""),
 ];
 
 /// The network with nothing down, if the plan gives the states.
-const CALM_GIVEN: &[Slot] = slots![
-    ("", Kind::OneOf(REST), ": states given forest "),
-    ("forest", Kind::OneOf(YES_OR_NO), ""),
-];
+const CALM_GIVEN: &[Slot] = slots![("forest", Kind::OneOf(YES_OR_NO), ""),];
 
 /// One link or bridge is down.
 const ONE: &[Slot] = slots![
@@ -147,9 +140,11 @@ const SERVICE_FAULT: &[Slot] = slots![
 /// The network is healthy with nothing down.
 const HEALTHY: &[Slot] = slots![("healthy", Kind::OneOf(IS_HEALTHY), ""),];
 
+/// The network is healthy with nothing else down.
+const HEALTHY_BESIDE: &[Slot] = slots![("healthy", Kind::OneOf(IS_HEALTHY_BESIDE), ""),];
+
 /// Services are not healthy with nothing down.
 const UNHEALTHY: &[Slot] = slots![
-    ("", Kind::OneOf(REST), ": "),
     ("unhealthy_services", Kind::Number, " service"),
     ("", Kind::Plural, ""),
     ("healthy", Kind::OneOf(IS_UNHEALTHY), ""),
@@ -158,7 +153,6 @@ const UNHEALTHY: &[Slot] = slots![
 
 /// There is no service.
 const SERVICELESS: &[Slot] = slots![
-    ("", Kind::OneOf(REST), ": no service"),
     ("healthy", Kind::OneOf(IS_UNHEALTHY), ""),
     ("survives", Kind::OneOf(NEVER), ""),
 ];
@@ -255,9 +249,12 @@ const NO_PORT: &[Slot] = slots![("port", Kind::Text, ""),];
 
 /// The lines.
 const LINES: &[Template] = &[
-    template!("", "down:", DOWNS),
-    template!("nothing_down", "nothing ", CALM),
-    template!("nothing_down", "nothing ", CALM_GIVEN),
+    template!("nothing_down", "nothing down: ", CALM),
+    template!(
+        "nothing_down",
+        "nothing down: states given forest ",
+        CALM_GIVEN
+    ),
     template!("failures", "", ONE),
     template!("failures", "", ONE_GIVEN),
     template!("failures", "", TWO),
@@ -268,8 +265,53 @@ const LINES: &[Template] = &[
     template!("unhealthy", "bridges ", BRIDGES_FAULT),
     template!("unhealthy", "service ", SERVICE_FAULT),
     template!("", "healthy ", HEALTHY),
-    template!("", "not healthy with nothing ", UNHEALTHY),
-    template!("", "not healthy with nothing ", SERVICELESS),
+    template!("", "not healthy with nothing down: ", UNHEALTHY),
+    template!("", "not healthy with nothing down: no service", SERVICELESS),
+    template!("", "checked ", LINKS),
+    template!("", "checked ", LINKS_BRIDGES),
+    template!("", "checked ", LINKS_PAIRS),
+    template!("", "checked ", LINKS_BRIDGES_PAIRS),
+    template!("", "", SPARING),
+    template!("", "converges within ", CONVERGING),
+    template!("", "", EXCUSED),
+    template!("", "", PARTING),
+    template!("", "", LOOPING),
+    template!("", "", UNSETTLED),
+    template!("acceptances", "", ACCEPTANCE),
+    template!("", "survives ", SURVIVING),
+    template!("no_such", "no such service ", NO_SERVICE),
+    template!("no_such", "no such port ", NO_PORT),
+    FAULT,
+    NAMED_PLAN_FAULT,
+    PLAN_FAULT,
+    OTHER,
+];
+
+/// The lines if something is down from the start.
+const LINES_BESIDE: &[Template] = &[
+    template!("", "down:", DOWNS),
+    template!("nothing_down", "nothing else down: ", CALM),
+    template!(
+        "nothing_down",
+        "nothing else down: states given forest ",
+        CALM_GIVEN
+    ),
+    template!("failures", "", ONE),
+    template!("failures", "", ONE_GIVEN),
+    template!("failures", "", TWO),
+    template!("failures", "", TWO_GIVEN),
+    template!("loops", "  loop ", RING),
+    template!("services", "  service ", SERVICE),
+    template!("cut_off", "  ", CUT_OFF),
+    template!("unhealthy", "bridges ", BRIDGES_FAULT),
+    template!("unhealthy", "service ", SERVICE_FAULT),
+    template!("", "healthy ", HEALTHY_BESIDE),
+    template!("", "not healthy with nothing else down: ", UNHEALTHY),
+    template!(
+        "",
+        "not healthy with nothing else down: no service",
+        SERVICELESS
+    ),
     template!("", "checked ", LINKS),
     template!("", "checked ", LINKS_BRIDGES),
     template!("", "checked ", LINKS_PAIRS),
@@ -311,6 +353,12 @@ const LISTS: &[ListForm] = &[
 /// The form of what `survive` prints.
 pub const SURVIVE: Form = Form {
     templates: LINES,
+    lists: LISTS,
+};
+
+/// The form of what `survive` prints if something is down from the start.
+pub const SURVIVE_BESIDE: Form = Form {
+    templates: LINES_BESIDE,
     lists: LISTS,
 };
 

@@ -188,6 +188,42 @@ pub(super) const TREES: &[Said] = &[
     },
 ];
 
+/// Reports of `survive` on networks with something down at the start.
+pub(super) const IMPAIRED: &[Said] = &[
+    Said {
+        text: "down: ring1 South\nnothing else down: settled ticks 3 forest yes\n  service red: C1 C2\n\
+            healthy with nothing else down\nlink ring2 down: settled ticks 4 forest yes\n  service red: C1 | C2\n\
+            checked 3 links\n2 of 3 failures disconnect nothing\nconverges within 4 ticks\n\
+            1 of 3 failures disconnect a service\n",
+        json: r#"{"down": ["ring1", "South"],
+            "nothing_down": {"settled": true, "ticks": 3, "forest": true, "loops": [], "unhealthy": [],
+                "services": [{"name": "red", "groups": [["C1", "C2"]]}]},
+            "acceptances": [], "failures": [
+                {"down": "link", "name": "ring2", "settled": true, "ticks": 4, "forest": true, "loops": [],
+                    "cut_off": [], "services": [{"name": "red", "groups": [["C1"], ["C2"]]}]}],
+            "healthy": true, "checked_links": 3, "part_nothing": 2, "failures_tried": 3, "most_ticks": 4,
+            "part_a_service": 1, "survives": false}"#,
+    },
+    Said {
+        text: "down: B1:1\nnothing else down: states given forest yes\n  service red: C1 | C2\n\
+            service red is disconnected\nnot healthy with nothing else down: 1 service\nchecked 0 links\n\
+            not healthy with nothing else down: 1 service\n",
+        json: r#"{"down": ["B1:1"],
+            "nothing_down": {"forest": true, "loops": [],
+                "services": [{"name": "red", "groups": [["C1"], ["C2"]]}],
+                "unhealthy": [{"service": "red", "fault": "disconnected"}]},
+            "acceptances": [], "failures": [], "healthy": false, "unhealthy_services": 1, "checked_links": 0,
+            "survives": false}"#,
+    },
+    Said {
+        text: "down: B1\nnothing else down: states given forest yes\nnot healthy with nothing else down: no service\n\
+            checked 0 links\nnot healthy with nothing else down: no service\n",
+        json: r#"{"down": ["B1"],
+            "nothing_down": {"forest": true, "loops": [], "services": [], "unhealthy": []},
+            "acceptances": [], "failures": [], "healthy": false, "checked_links": 0, "survives": false}"#,
+    },
+];
+
 /// Reports of `survive`.
 pub(super) const SURVIVALS: &[Said] = &[
     Said {
@@ -228,38 +264,6 @@ pub(super) const SURVIVALS: &[Said] = &[
         text: "nothing down: states given forest yes\nnot healthy with nothing down: no service\nchecked 0 links\n\
             not healthy with nothing down: no service\n",
         json: r#"{"nothing_down": {"forest": true, "loops": [], "services": [], "unhealthy": []},
-            "acceptances": [], "failures": [], "healthy": false, "checked_links": 0, "survives": false}"#,
-    },
-    Said {
-        text: "down: ring1 South\nnothing else down: settled ticks 3 forest yes\n  service red: C1 C2\n\
-            healthy with nothing else down\nlink ring2 down: settled ticks 4 forest yes\n  service red: C1 | C2\n\
-            checked 3 links\n2 of 3 failures disconnect nothing\nconverges within 4 ticks\n\
-            1 of 3 failures disconnect a service\n",
-        json: r#"{"down": ["ring1", "South"],
-            "nothing_down": {"settled": true, "ticks": 3, "forest": true, "loops": [], "unhealthy": [],
-                "services": [{"name": "red", "groups": [["C1", "C2"]]}]},
-            "acceptances": [], "failures": [
-                {"down": "link", "name": "ring2", "settled": true, "ticks": 4, "forest": true, "loops": [],
-                    "cut_off": [], "services": [{"name": "red", "groups": [["C1"], ["C2"]]}]}],
-            "healthy": true, "checked_links": 3, "part_nothing": 2, "failures_tried": 3, "most_ticks": 4,
-            "part_a_service": 1, "survives": false}"#,
-    },
-    Said {
-        text: "down: B1:1\nnothing else down: states given forest yes\n  service red: C1 | C2\n\
-            service red is disconnected\nnot healthy with nothing else down: 1 service\nchecked 0 links\n\
-            not healthy with nothing else down: 1 service\n",
-        json: r#"{"down": ["B1:1"],
-            "nothing_down": {"forest": true, "loops": [],
-                "services": [{"name": "red", "groups": [["C1"], ["C2"]]}],
-                "unhealthy": [{"service": "red", "fault": "disconnected"}]},
-            "acceptances": [], "failures": [], "healthy": false, "unhealthy_services": 1, "checked_links": 0,
-            "survives": false}"#,
-    },
-    Said {
-        text: "down: B1\nnothing else down: states given forest yes\nnot healthy with nothing else down: no service\n\
-            checked 0 links\nnot healthy with nothing else down: no service\n",
-        json: r#"{"down": ["B1"],
-            "nothing_down": {"forest": true, "loops": [], "services": [], "unhealthy": []},
             "acceptances": [], "failures": [], "healthy": false, "checked_links": 0, "survives": false}"#,
     },
     Said {
