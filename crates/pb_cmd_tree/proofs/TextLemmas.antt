@@ -7,6 +7,8 @@ use Rattle.std.specs.Fmt.{decimal}
 use Rattle.pb_frame.proofs.Lists.{Some-injective, first-finds, eqb-refl}
 use Rattle.pb_frame.proofs.Things.{thing_within, from_here}
 use Rattle.pb_converge.specs.Rests.{IsRestIn}
+use Rattle.pb_lan.specs.LastShapes.{last_shape}
+use Rattle.pb_lan.specs.Records.{IsLawfulRecord}
 use Rattle.pb_lan.specs.declared.plan.Plan.{Plan}
 use Rattle.pb_lan.specs.declared.plan.Spanning.{Spanning}
 use Rattle.pb_lan.specs.declared.plan.Spanning.TheVariants.{Fixed, Rstp}
@@ -14,7 +16,9 @@ use Rattle.pb_lan.specs.declared.record.Record.{Record}
 use Rattle.pb_lan.specs.declared.shape.PortState.{PortState}
 use Rattle.pb_lan.specs.declared.shape.Shape.{Shape}
 use Rattle.pb_lan.specs.declared.step.Step.{Step}
+use Rattle.pb_net.specs.Answers.{NetView}
 use Rattle.pb_relay.specs.Machines.{machine_in}
+use Rattle.pb_relay.specs.Protocol.{spanning_tree}
 use Rattle.pb_relay.proofs.CauseLemmas.{a_machine}
 use Rattle.pb_rstp.specs.Ports.{Machine, port_of}
 use Rattle.pb_rstp.specs.Profile.{machine_of}
@@ -22,7 +26,7 @@ use Rattle.pb_rstp.specs.Readings.{roles_of, states_of}
 use Rattle.pb_rstp.specs.declared.port.Port.{Port}
 use Rattle.pb_rstp.specs.declared.role.Role.{Role}
 use Rattle.pb_cmd_tree.specs.TreeTexts.{designated_at, port_words, port_line, IsServiceTextAt, AreServiceTexts}
-use Rattle.pb_cmd_tree.specs.TreeTexts.{IsProtocolText, IsTreeText}
+use Rattle.pb_cmd_tree.specs.TreeTexts.{IsGivenText, IsProtocolText, IsTreeText}
 use Rattle.pb_converge.specs.declared.rest.Rest.{Rest}
 use Rattle.pb_converge.specs.declared.rest.Rest.TheVariants.{Given, Settled, Unsettled}
 
@@ -131,3 +135,17 @@ protocol_tree plan rec Rstp Given text fits e t = absurd fits
 protocol_tree plan rec Rstp (Settled ticks) text fits e t = t
 protocol_tree plan rec Rstp (Unsettled ticks) text fits e t = t
 protocol_tree plan rec Fixed rest text fits e t = cc
+
+pub given_tree : (plan : Plan) (rec : Record) (spanning : Spanning) (rest : Rest) (text : List ℕ)
+    → IsRestIn spanning rest → spanning ≡ Fixed → IsGivenText plan (last_shape plan rec) text
+    → IsTreeText plan rec rest text
+given_tree plan rec Fixed Given text fits e t = t
+given_tree plan rec Fixed (Settled ticks) text fits e t = absurd fits
+given_tree plan rec Fixed (Unsettled ticks) text fits e t = absurd fits
+given_tree plan rec Rstp rest text fits e t = cc
+
+-- the record at the end is lawful for the plan of the network
+pub lawful_end : (plan : Plan) (end : NetView) (rec : Record) → end.plan ≡ plan → rec ≡ end.rec
+    → IsLawfulRecord spanning_tree end.plan rec → IsLawfulRecord spanning_tree plan end.rec
+lawful_end plan end rec planned is h =
+    subst (λ r. IsLawfulRecord spanning_tree plan r) is (subst (λ p. IsLawfulRecord spanning_tree p rec) planned h)

@@ -1,25 +1,29 @@
 -- The command: links, bridges and ports are disabled, the bridges converge, and the trees are printed.
-use Rattle.std.specs.Prelude.{ℕ, List, Some, None, Option}
+use Rattle.std.specs.Prelude.{◌≡◌, ℕ, List, Some, None, Option}
 use Rattle.std.specs.Io.KnownBytes.{Appends, Keeps}
 use Rattle.std.specs.Global.{Global}
 use Rattle.std.specs.declared.string.String.{String}
-use Rattle.pb_converge.specs.Falls.{HaveFallen, IsRefused}
+use Rattle.pb_converge.specs.Falls.{HaveFallen, IsRefused, fresh}
 use Rattle.pb_converge.specs.declared.falling.DownFault.{DownFault}
+use Rattle.pb_lan.specs.Records.{IsLawfulRecord}
 use Rattle.pb_lan.specs.declared.plan.Plan.{Plan}
 use Rattle.pb_net.specs.Answers.{NetView}
+use Rattle.pb_relay.specs.Protocol.{spanning_tree}
 use Rattle.pb_report.specs.PlanFiles.{IsToldBy}
 use Rattle.pb_report.specs.Refusals.{PrintsRefusal}
-use Rattle.pb_converge.specs.Drives.{HasRested}
+use Rattle.pb_converge.specs.Drives.{HasRested, ReachesLimit}
 use Rattle.pb_converge.specs.declared.rest.Rest.{Rest}
 use Rattle.pb_cmd_tree.specs.TreeTexts.{IsTreeText}
 use Rattle.pb_cmd_tree.specs.declared.end.TreeEnd.{TreeEnd}
 use Rattle.pb_cmd_tree.specs.declared.end.TreeEnd.TheVariants.{Told, Refused, NoDown}
 
--- each bridge ticks at most so many times, and the text has the trees at the end
+-- each bridge ticks at most so many times, and the text has the trees at the end, which are those of a lawful record
 pub record AreTreesFrom (plan : Plan) (ticks : ℕ) (fallen : NetView) (text : List ℕ) : Type 0 where
   pub last : NetView
   pub rest : Rest
   pub rested : HasRested ticks 1000000000 rest fallen last
+  pub planned : last.plan ≡ plan
+  pub lawful : IsLawfulRecord spanning_tree plan last.rec
   pub trees : IsTreeText plan last.rec rest text
 
 -- what the names disable is disabled first
@@ -43,3 +47,7 @@ abbrev pub HasTold : List ℕ → List (String Global) → ℕ → TreeEnd → O
 HasTold file downs ticks Told before after = (plan : Plan) × IsToldBy file plan × HasPrinted plan downs ticks None before after
 HasTold file downs ticks Refused before after = PrintsRefusal file before after
 HasTold file downs ticks (NoDown fault) before after = (plan : Plan) × IsToldBy file plan × HasPrinted plan downs ticks (Some fault) before after
+
+-- the network of the plan in the file reaches the limit of steps of a place, or a billion events
+abbrev pub RunsIntoLimit : List ℕ → Type 0
+RunsIntoLimit file = (plan : Plan) × IsToldBy file plan × ReachesLimit 1000000000 (fresh plan)

@@ -2,18 +2,21 @@
 
 ghost use Rattle.std.specs.Prelude.{◌≡◌, ◌≢◌, ◌++◌, List, ℕ, string_bytes, OnOk, IfOk, IfErr};
 ghost use Rattle.std.specs.Io.KnownBytes.{Appends, Keeps};
-ghost use Rattle.pb_converge.specs.Rests.{IsRestIn};
+ghost use Rattle.pb_converge.specs.Drives.{IsCaused, ReachesLimit};
+ghost use Rattle.pb_converge.specs.Falls.{fresh};
 ghost use Rattle.pb_lan.specs.LastShapes.{last_shape};
 ghost use Rattle.pb_lan.specs.Plans.{IsSound};
 ghost use Rattle.pb_report.specs.ForestTexts.{IsForestText};
-ghost use Rattle.pb_cmd_tree.specs.TreeTexts.{IsGivenText, IsTreeText};
-ghost use Rattle.pb_cmd_tree.specs.Trees.{ReturnsTrees, HasPrinted, HasTold, AreTreesFrom};
+ghost use Rattle.pb_cmd_tree.specs.TreeTexts.{IsGivenText};
+ghost use Rattle.pb_cmd_tree.specs.Trees.{ReturnsTrees, HasPrinted, HasTold, AreTreesFrom, RunsIntoLimit};
 
 use crate::end::TreeEnd;
 use crate::given::put_given;
 use crate::protocol::put_protocol;
 use crate::services::put_services;
-use pb_converge::{DownFault, Rest, falls, fresh, put_rest, rests, shape_of};
+use pb_converge::{
+    DownFault, DriveFault, Rest, disables, fault_of, fresh, put_rest, settle, shape_of,
+};
 use pb_frame::Memory;
 use pb_lan::{Plan, Record, Spanning};
 use pb_messages::{CommandFault, write_whole};
@@ -22,6 +25,9 @@ use pb_report::{put_forest, write_refusal};
 use pb_service::read_plan;
 use std::alloc::Global;
 use std::io::Write;
+
+/// The most events besides ticks until convergence.
+const MOST_EVENTS: u64 = 1_000_000_000;
 
 /// Appends whether the shape at the end of a record is a forest for each service.
 fn put_last_forest(alloc: Global, out: &mut String, plan: &Plan, rec: &Record) -> Result<(), Memory>
@@ -45,30 +51,6 @@ fn put_planned(alloc: Global, out: &mut String, plan: &Plan, rec: &Record) -> Re
     put_services(alloc, out, plan, &shape)
 }
 
-/// Appends the trees of a network, from the states at its end.
-fn put_trees(
-    alloc: Global,
-    out: &mut String,
-    plan: &Plan,
-    net: Net,
-    rest: Rest,
-) -> Result<(), Memory>
-    requires sound { IsSound plan.now }
-    requires plan { net.plan ≡ plan.now }
-    requires rest { IsRestIn plan.now.spanning rest }
-    ensures { OnOk result ((text : List ℕ) × (string_bytes out.new ≡ string_bytes out.old ++ text)
-        × IsTreeText plan.now net.rec rest text) }
-{
-    match plan.spanning {
-        Spanning::Fixed => put_planned(alloc, out, plan, &net.finish()),
-        Spanning::Rstp => {
-            put_rest(out, rest)?;
-            put_protocol(out, plan, &net)?;
-            put_last_forest(alloc, out, plan, &net.finish())
-        }
-    }
-}
-
 /// Drives a network to convergence, and appends its trees.
 fn put_rested(
     alloc: Global,
@@ -76,14 +58,22 @@ fn put_rested(
     plan: &Plan,
     mut net: Net,
     ticks: u32,
-) -> Result<(), CommandFault>
+) -> Result<(), DriveFault>
     requires sound { IsSound plan.now }
     requires plan { net.plan ≡ plan.now }
-    ensures { OnOk result ((text : List ℕ) × (string_bytes out.new ≡ string_bytes out.old ++ text)
+    ensures ok { OnOk result ((text : List ℕ) × (string_bytes out.new ≡ string_bytes out.old ++ text)
         × AreTreesFrom plan.now ticks net text) }
+    ensures err { IfErr result (λ fault. IsCaused 1000000000 fault net) }
 {
-    let rest = rests(alloc, &mut net, plan, ticks)?;
-    Ok(put_trees(alloc, out, plan, net, rest)?)
+    let rest = settle(alloc, &mut net, plan, ticks, MOST_EVENTS)?;
+    match plan.spanning {
+        Spanning::Fixed => Ok(put_planned(alloc, out, plan, &net.finish())?),
+        Spanning::Rstp => {
+            put_rest(out, rest)?;
+            put_protocol(out, plan, &net)?;
+            Ok(put_last_forest(alloc, out, plan, &net.finish())?)
+        }
+    }
 }
 
 /// Disables what `downs` names, and appends the trees. Returns why a name is refused; the text is unchanged then.
@@ -93,13 +83,14 @@ fn put_trees_with_downs(
     plan: &Plan,
     downs: &[String],
     ticks: u32,
-) -> Result<Option<DownFault>, CommandFault>
+) -> Result<Option<DownFault>, DriveFault>
     requires { IsSound plan.now }
-    ensures { IfOk result (λ lacking. (text : List ℕ) × (string_bytes out.new ≡ string_bytes out.old ++ text)
+    ensures ok { IfOk result (λ lacking. (text : List ℕ) × (string_bytes out.new ≡ string_bytes out.old ++ text)
         × ReturnsTrees plan.now downs.now ticks lacking text) }
+    ensures err { IfErr result (λ fault. IsCaused 1000000000 fault (fresh plan.now)) }
 {
     let mut net = fresh(alloc, plan)?;
-    match falls(alloc, &mut net, plan, downs)? {
+    match disables(alloc, &mut net, plan, downs)? {
         Some(fault) => Ok(Some(fault)),
         None => {
             put_rested(alloc, out, plan, net, ticks)?;
@@ -120,21 +111,26 @@ fn print_trees<W: Write>(
     requires { IsSound plan.now }
     ensures ok { IfOk result (λ lacking.
         HasPrinted plan.now downs.now ticks lacking (W.contents writer.old) (W.contents writer.new)) }
+    ensures kinds { IfErr result (λ e. e ≢ CommandFault.Read) }
+    ensures steps { IfErr result (λ e. e ≡ CommandFault.Steps → ReachesLimit 1000000000 (fresh plan.now)) }
     ensures none { IfErr result (λ e. e ≢ CommandFault.Write → Keeps (W.contents writer.old) (W.contents writer.new)) }
 {
     let mut out = String::new(alloc);
-    let lacking = put_trees_with_downs(alloc, &mut out, plan, downs, ticks)?;
-    if lacking.is_some() {
-        return Ok(lacking);
+    match put_trees_with_downs(alloc, &mut out, plan, downs, ticks) {
+        Ok(None) => {
+            write_whole(writer, out.as_bytes())?;
+            Ok(None)
+        }
+        Ok(Some(fault)) => Ok(Some(fault)),
+        Err(fault) => Err(fault_of(fault)),
     }
-    write_whole(writer, out.as_bytes())?;
-    Ok(None)
 }
 
 /// Reads a plan file, disables links, bridges and ports, drives the bridges to convergence, and prints the trees.
 ///
-/// Each of `downs` names a link, a bridge, or a port to another bridge as `BRIDGE:PORT`, as [`falls`] describes. Each
-/// bridge takes at most `ticks` ticks (seconds).
+/// Each of `downs` names a link, a bridge, or a port to another bridge as `BRIDGE:PORT`, as [`disables`] describes.
+/// Each bridge takes at most `ticks` ticks (seconds). What is printed is the end of a lawful record of that network, as
+/// [`Net::finish`] returns it.
 ///
 /// If the bridges run the rapid spanning tree (IEEE 802.1D-2004 clause 17), the lines are
 ///
@@ -167,6 +163,8 @@ pub fn run_tree<W: Write>(
 ) -> Result<TreeEnd, CommandFault>
     ensures ok { IfOk result (λ end.
         HasTold file.now downs.now ticks end (W.contents writer.old) (W.contents writer.new)) }
+    ensures kinds { IfErr result (λ e. e ≢ CommandFault.Read) }
+    ensures steps { IfErr result (λ e. e ≡ CommandFault.Steps → RunsIntoLimit file.now) }
     ensures none { IfErr result (λ e. e ≢ CommandFault.Write → Keeps (W.contents writer.old) (W.contents writer.new)) }
 {
     match read_plan(alloc, file) {

@@ -1,14 +1,69 @@
+use Rattle.std.proofs.Common.{◌++◌, string_bytes, refl, subst, sym, ap}
+use Rattle.std.proofs.lemmas.Result.{err_from_is_err_and}
+use Rattle.pb_converge.proofs.LimitLemmas.{caused-failed}
+use Rattle.pb_converge.proofs.RestLemmas.{rest_in}
+use Rattle.pb_converge.specs.Drives.{IsCaused}
+use Rattle.pb_converge.specs.Rests.{rest_line}
+use Rattle.pb_lan.specs.LastShapes.{last_shape}
+use Rattle.pb_report.specs.ForestTexts.{IsForestText}
+use Rattle.pb_cmd_tree.specs.TreeTexts.{IsGivenText, protocol_lines}
+use Rattle.pb_names.proofs.TextLemmas.{join_three}
+use Rattle.pb_cmd_tree.proofs.TextLemmas.{given_tree, lawful_end, protocol_tree}
 use Rattle.pb_cmd_tree.proofs.tree.put_rested.Goals as goal
 
-pub returns : goal.returns
-returns c =
-    let t = c.in_ok-put_trees.ensures in (
+pub returns-in_err-rest-clause-err : goal.returns-in_err-rest-clause-err
+returns-in_err-rest-clause-err c =
+    let p = err_from_is_err_and c.from_residual.result c.from_residual.ensures.1 in
+    let net = c.args.net in
+    let caused = caused-failed 1000000000 c.in_err-rest.field-0.0 net c.settle.new.net c.in_err-rest.ensures.err in
+    rw p.1 (subst (λ e. IsCaused 1000000000 e net) (sym p.2) caused)
+
+pub returns-in_ok-put_planned-in-Fixed-clause-ok : goal.returns-in_ok-put_planned-in-Fixed-clause-ok
+returns-in_ok-put_planned-in-Fixed-clause-ok c =
+    let plan = c.args.plan.now in
+    let last = c.settle.new.net in
+    let rest = c.in_ok-rest.rest in
+    let t = c.in_ok-put_planned-in-Fixed.ensures in
+    let given = subst (λ r. IsGivenText plan (last_shape plan r) t.0) c.finish.ensures.record t.2 in
+    let fits = rest_in c.args.ticks 1000000000 rest plan.spanning c.args.net last (ap (λ p. p.spanning) c.requires.plan)
+    c.in_ok-rest.ensures.ok in (
       t.0,
       t.1,
       record {
-        last = c.rests.new.net;
-        rest = c.in_ok-rest.rest;
+        last = last;
+        rest = rest;
         rested = c.in_ok-rest.ensures.ok;
-        trees = t.2;
+        planned = c.settle.ensures.plan;
+        lawful = lawful_end plan last c.finish.result c.settle.ensures.plan c.finish.ensures.record
+            c.finish.ensures.lawful;
+        trees = given_tree plan last.rec plan.spanning rest t.0 fits c.in-Fixed.is given;
+      },
+    )
+
+pub returns-in_ok-put_last_forest-in-Rstp-clause-ok : goal.returns-in_ok-put_last_forest-in-Rstp-clause-ok
+returns-in_ok-put_last_forest-in-Rstp-clause-ok c =
+    let plan = c.args.plan.now in
+    let last = c.settle.new.net in
+    let rest = c.in_ok-rest.rest in
+    let front = rest_line rest in
+    let trees = protocol_lines plan last.rec in
+    let f = c.in_ok-put_last_forest-in-Rstp.ensures in
+    let text = front ++ trees ++ f.0 in
+    let forest = subst (λ r. IsForestText plan (last_shape plan r) f.0) c.finish-in-Rstp.ensures.record f.2 in
+    let fits = rest_in c.args.ticks 1000000000 rest plan.spanning c.args.net last (ap (λ p. p.spanning) c.requires.plan)
+    c.in_ok-rest.ensures.ok in (
+      text,
+      join_three (string_bytes c.args.out.now) front trees f.0 (string_bytes c.put_rest.new.out)
+          (string_bytes c.put_protocol.new.out) (string_bytes c.put_last_forest.new.out)
+          c.in_ok-put_rest-in-Rstp.ensures c.in_ok-put_protocol-in-Rstp.ensures f.1,
+      record {
+        last = last;
+        rest = rest;
+        rested = c.in_ok-rest.ensures.ok;
+        planned = c.settle.ensures.plan;
+        lawful = lawful_end plan last c.finish-in-Rstp.result c.settle.ensures.plan c.finish-in-Rstp.ensures.record
+            c.finish-in-Rstp.ensures.lawful;
+        trees = protocol_tree plan last.rec plan.spanning rest text fits c.in-Rstp.is
+            (record { forest = f.0; is_forest = forest; text_is = refl });
       },
     )
