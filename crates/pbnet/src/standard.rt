@@ -38,11 +38,13 @@ fn occupy<R: Files<File = File>>(rt: &R, writes: bool) -> io::Result<()> {
 /// The error of the system, if one of the three is closed and the null device cannot be opened.
 pub(crate) fn occupy_closed<R: Files<File = File>>(rt: &R) -> io::Result<()> {
     for _ in 0..3 {
-        match lowest_free(rt) {
-            Some(0) => occupy(rt, false)?,
-            Some(1) | Some(2) => occupy(rt, true)?,
-            _ => return Ok(()),
+        let Some(lowest) = lowest_free(rt) else {
+            return Ok(());
+        };
+        if lowest > 2 {
+            return Ok(());
         }
+        occupy(rt, lowest != 0)?;
     }
     Ok(())
 }
