@@ -8,4 +8,5 @@ ghosts-send_two g a =
       rings = here ∷ here ∷ here ∷ here ∷ here ∷ here ∷ [];
       keeps = false;
       sets = false;
+      waits = false;
     }
