@@ -4,8 +4,8 @@ use Rattle.std.specs.declared.vec.Vec.{Vec}
 use Rattle.pb_lan.specs.declared.plan.Plan.{Plan}
 use Rattle.pb_run.specs.declared.outside.Parts.{Parts}
 use Rattle.pb_run.specs.declared.record.Gathered.{Gathered}
-use Rattle.pb_run.specs.declared.running.GatheredPlaces.{GatheredPlaces}
-use Rattle.pb_run.specs.declared.running.Rooms.{Rooms}
+use Rattle.pb_run.specs.declared.rooms.GatheredPlaces.{GatheredPlaces}
+use Rattle.pb_run.specs.declared.rooms.Rooms.{Rooms}
 
 -- the list is empty, with capacity for this many items
 abbrev pub IsEmptyFor : {X A : Type 0} → ℕ → Vec X A → Type 0

@@ -11,6 +11,7 @@ mod fault;
 mod meet;
 mod outside;
 mod record;
+mod rooms;
 mod running;
 mod settled;
 mod wires;

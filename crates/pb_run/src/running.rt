@@ -4,7 +4,7 @@ ghost use Rattle.std.specs.Prelude.{◌≡◌, true, false, IfOk, IfErr, length,
 ghost use Rattle.pb_lan.specs.Laws.{AreTracedFromStart, NoPortIsSet};
 ghost use Rattle.pb_lan.specs.Plans.{IsSound};
 ghost use Rattle.pb_lan.specs.declared.plan.Spanning.TheVariants.{Fixed};
-ghost use Rattle.pb_run.specs.Rooms.{HasPartRooms, HasPlaceRooms, HasRooms};
+ghost use Rattle.pb_run.specs.Rooms.{HasPlaceRooms, HasRooms};
 ghost use Rattle.pb_run.specs.Runs.{IsTrueRecord, IsRun, HasNotRun};
 ghost use Rattle.pb_run.specs.Wires.{AreRingsOf};
 ghost use Rattle.pb_run.specs.Workers.{IsBuilt, AreBack};
@@ -16,7 +16,8 @@ use crate::ended::{Causes, Ended, ended_by};
 use crate::fault::{RunCause, RunFault, cause_of};
 use crate::meet::{meet_accesses, meet_links};
 use crate::outside::{Held, Parts, apart, attended};
-use crate::record::{Gathered, access_lists, bridge_lists, lane_lists};
+use crate::record::{access_lists, bridge_lists, lane_lists};
+use crate::rooms::{GatheredPlaces, RoomsOf, rooms_of};
 use crate::settled::whether_settled;
 use crate::wires::{Ring, new_rings};
 use pb_frame::{Memory, Seq};
@@ -62,83 +63,6 @@ pub struct KeptRun {
 struct Told {
     counts: Tallies,
     rec: Record,
-}
-
-/// The counts and steps of customer ports, lanes and bridges.
-#[derive(Drop)]
-struct GatheredPlaces {
-    customers: Gathered,
-    lanes: Gathered,
-    bridges: Gathered,
-}
-
-/// Empty lists with capacity for what comes back.
-#[derive(Drop)]
-struct Rooms<C, A, P> {
-    /// The workers of customer ports.
-    workers: Vec<C>,
-    /// The parts of these workers.
-    parts: Parts<A, P>,
-    /// The counts and steps of all places.
-    gathered: GatheredPlaces,
-}
-
-/// The lists for places over rings of this wiring.
-type RoomsOf<W> = Rooms<CustomerWorker<W, Held>, Access<W>, Held>;
-
-/// Allocates lists for the parts of `customers` workers of customer ports.
-///
-/// # Errors
-///
-/// `Memory` if an allocation failed.
-fn part_rooms<W: Wiring>(alloc: Global, customers: usize) -> Result<Parts<Access<W>, Held>, Memory>
-    ensures { IfOk result (HasPartRooms customers) }
-{
-    let lasts = Vec::with_capacity(alloc, customers)?;
-    let accesses = Vec::with_capacity(alloc, customers)?;
-    Ok(Parts {
-        ports: Vec::with_capacity(alloc, customers)?,
-        accesses,
-        lasts,
-    })
-}
-
-/// Allocates lists for the counts and steps of a plan's places.
-///
-/// # Errors
-///
-/// `Memory` if an allocation failed.
-fn place_rooms(alloc: Global, plan: &Plan) -> Result<GatheredPlaces, Memory>
-    requires { IsSound plan.now }
-    ensures { IfOk result (HasPlaceRooms plan.now) }
-{
-    let bridges = Gathered::with_room(alloc, plan.bridges.len())?;
-    let lanes = Gathered::with_room(alloc, 2 * plan.links.len())?;
-    let customers = Gathered::with_room(alloc, plan.customers.len())?;
-    Ok(GatheredPlaces {
-        customers,
-        lanes,
-        bridges,
-    })
-}
-
-/// Allocates the lists for all that comes back of a plan's places, before a worker is started.
-///
-/// # Errors
-///
-/// `Memory` if an allocation failed.
-fn rooms_of<W: Wiring>(alloc: Global, plan: &Plan) -> Result<RoomsOf<W>, Memory>
-    requires { IsSound plan.now }
-    ensures { IfOk result (HasRooms plan.now) }
-{
-    let customers = plan.customers.len();
-    let gathered = place_rooms(alloc, plan)?;
-    let parts = part_rooms(alloc, customers)?;
-    Ok(Rooms {
-        workers: Vec::with_capacity(alloc, customers)?,
-        parts,
-        gathered,
-    })
 }
 
 /// The places of a run over rings of this wiring.
