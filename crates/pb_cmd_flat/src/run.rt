@@ -14,6 +14,7 @@ use crate::line::read_frame_line;
 use crate::print::append_bad;
 use crate::switch::Switch;
 use bytes::BytesMut;
+use pb_frame::{HexFault, hex_octets_in};
 use pb_lines::{Found, LineReader};
 use pb_messages::{CommandFault, MAX_LINE};
 use std::alloc::Global;
@@ -48,9 +49,17 @@ fn answer(
         return Ok(());
     }
     let alloc = *frames.allocator();
-    match read_frame_line(frames, limit, ports, line)? {
-        None => append_bad(alloc, out, number)?,
-        Some(handed) => switch.handle(alloc, handed.port, handed.frame, handed.digits, out)?,
+    let Some(handed) = read_frame_line(limit, ports, line) else {
+        append_bad(alloc, out, number)?;
+        return Ok(());
+    };
+    // The frame is moved into the bridge from where it was made. In a value of `read_frame_line` it would be moved
+    // twice more.
+    match hex_octets_in(frames, handed.digits) {
+        Ok(frame) => switch.handle(alloc, handed.port, frame, handed.digits, out)?,
+        Err(HexFault::Memory) => return Err(CommandFault::Memory),
+        Err(HexFault::Digit) => append_bad(alloc, out, number)?,
+        Err(HexFault::Odd) => append_bad(alloc, out, number)?,
     }
     Ok(())
 }

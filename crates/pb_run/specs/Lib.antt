@@ -4,3 +4,4 @@ pub mod Workers
 pub mod Meetings
 pub mod Rooms
 pub mod Runs
+pub mod Modes

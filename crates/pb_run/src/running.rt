@@ -1,9 +1,10 @@
 //! A run of a whole plan.
 
 ghost use Rattle.std.specs.Prelude.{◌≡◌, true, false, IfOk, IfErr, length, map, vec_len};
-ghost use Rattle.pb_lan.specs.Laws.{AreTracedFromStart, NoPortIsSet};
+ghost use Rattle.pb_lan.specs.Laws.{AreTracedFromStart};
 ghost use Rattle.pb_lan.specs.Plans.{IsSound};
 ghost use Rattle.pb_lan.specs.declared.plan.Spanning.TheVariants.{Fixed};
+ghost use Rattle.pb_run.specs.Modes.{FollowsMode};
 ghost use Rattle.pb_run.specs.Rooms.{HasPlaceRooms, HasRooms};
 ghost use Rattle.pb_run.specs.Runs.{IsTrueRecord, IsRun, HasNotRun};
 ghost use Rattle.pb_run.specs.Wires.{AreRingsOf};
@@ -98,8 +99,7 @@ fn told_of<W: Wiring>(
     requires back { AreBack plan.now accesses.items lanes.items bridges.items }
     requires rooms { HasPlaceRooms plan.now rooms }
     ensures steps { IsTrueRecord plan.now result.counts }
-    ensures unset { W.sets ≡ false → NoPortIsSet result.counts }
-    ensures whole { W.waits ≡ true → NoFullQueueRefuses result.counts }
+    ensures mode { FollowsMode W.sets W.waits result.counts }
     ensures customers { result.counts.customers ≡ map (λ d. d.place.steps) accesses.items }
     ensures bridges { result.counts.bridges ≡ map (λ b. b.bridge.steps) bridges.items }
     ensures kept { W.keeps ≡ true → result.rec ≡ result.counts }
@@ -142,8 +142,7 @@ fn run_built<W: Wiring + Send, G: Gate, R: Threads + Wait + Clock + Sync>(
     requires rooms { HasRooms plan.now rooms }
     ensures run { IfOk result (λ kept. IsRun (λ b. script b) (λ b. tally b) plan.now ports kept.ran.ports
         kept.ran.counts kept.ran.last.items kept.ran.ended kept.ran.settled) }
-    ensures unset { IfOk result (λ kept. W.sets ≡ false → NoPortIsSet kept.ran.counts) }
-    ensures whole { IfOk result (λ kept. W.waits ≡ true → NoFullQueueRefuses kept.ran.counts) }
+    ensures mode { IfOk result (λ kept. FollowsMode W.sets W.waits kept.ran.counts) }
     ensures rec { IfOk result (λ kept. W.keeps ≡ true → kept.rec ≡ kept.ran.counts) }
     ensures failed { IfErr result (λ fault. (fault.cause ≡ RunCause.PortCount → ⊥)
         × (fault.ports.items ≡ ports.items)) }
@@ -207,8 +206,7 @@ fn run_wired<W: Wiring + Send, G: Gate, R: Threads + Wait + Clock + Sync>(
     requires rings { AreRingsOf plan.now W.rings rings }
     ensures run { IfOk result (λ kept. IsRun (λ b. script b) (λ b. tally b) plan.now ports kept.ran.ports
         kept.ran.counts kept.ran.last.items kept.ran.ended kept.ran.settled) }
-    ensures unset { IfOk result (λ kept. W.sets ≡ false → NoPortIsSet kept.ran.counts) }
-    ensures whole { IfOk result (λ kept. W.waits ≡ true → NoFullQueueRefuses kept.ran.counts) }
+    ensures mode { IfOk result (λ kept. FollowsMode W.sets W.waits kept.ran.counts) }
     ensures rec { IfOk result (λ kept. W.keeps ≡ true → kept.rec ≡ kept.ran.counts) }
     ensures failed { IfErr result (λ fault. (fault.cause ≡ RunCause.PortCount → ⊥)
         × (fault.ports.items ≡ ports.items)) }
@@ -240,8 +238,7 @@ fn run_places<G: Gate, R: Threads + Wait + Clock + Sync>(
     requires { IsSound plan.now }
     ensures run { IfOk result (λ kept. IsRun (λ b. script b) (λ b. tally b) plan.now ports kept.ran.ports
         kept.ran.counts kept.ran.last.items kept.ran.ended kept.ran.settled) }
-    ensures unset { IfOk result (λ kept. mode.sets ≡ false → NoPortIsSet kept.ran.counts) }
-    ensures whole { IfOk result (λ kept. mode.waits ≡ true → NoFullQueueRefuses kept.ran.counts) }
+    ensures mode { IfOk result (λ kept. FollowsMode mode.sets mode.waits kept.ran.counts) }
     ensures rec { IfOk result (λ kept. mode.keeps ≡ true → kept.rec ≡ kept.ran.counts) }
     ensures failed { IfErr result (λ fault. HasNotRun plan.now ports fault.ports fault.cause) }
 {

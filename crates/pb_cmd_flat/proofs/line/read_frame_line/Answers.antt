@@ -1,10 +1,10 @@
-use Rattle.std.proofs.Common.{◌≡◌, ◌*◌, ◌∷◌, ◌++◌, length, true, false, drop, arith, rules, ap, sym, ◌∙◌, Some, None}
+use Rattle.std.proofs.Common.{◌≡◌, ◌∷◌, ◌++◌, length, true, false, drop, arith, rules, ap, sym, ◌∙◌, Some, None}
 use Rattle.std.proofs.Common.{nat_eq, codes, eqb}
 use Rattle.std.proofs.lemmas.Bool.{eqb-false}
-use Rattle.std.specs.List.{list_all, starts_with}
+use Rattle.std.specs.List.{starts_with}
 use Rattle.std.proofs.lemmas.List.{take_rest}
-use Rattle.pb_frame.specs.Hex.{is_digit, IsHex}
-use Rattle.pb_frame.proofs.HexLemmas.{IsHex_digits, IsHex_length}
+use Rattle.pb_frame.specs.Hex.{IsHex}
+use Rattle.pb_frame.proofs.HexLemmas.{IsHex_length}
 use Rattle.pb_messages.specs.Words.{port_of}
 use Rattle.pb_cmd_flat.proofs.WordLemmas.{space_in, same_parts, three}
 use Rattle.pb_cmd_flat.proofs.line.read_frame_line.Goals as goal
@@ -24,11 +24,10 @@ returns-in_default-read_port-clause-none c = λ port frame l.
     let none : None ≡ port_of c.in-Some.digits.now = c.in_default-read_port.ensures in
     cc
 
-pub returns-in-Ok-clause-some : goal.returns-in-Ok-clause-some
-returns-in-Ok-clause-some c =
+pub returns-clause-some : goal.returns-clause-some
+returns-clause-some c = λ frame hex.
     let parts = rw take_rest at c.in-Some.ensures.parts in
     let begins : starts_with nat_eq c.args.line.now (codes "in ") ≡ true = search rules in
-    let hex : IsHex c.in-Some.hex.now c.in-Ok.frame = search rules in
     record {
       short = omega arith;
       digits = c.in-Some.digits.now;
@@ -38,25 +37,15 @@ returns-in-Ok-clause-some c =
       within = omega arith;
       octets = hex;
       some =
-          let e = IsHex_length c.in-Some.hex.now c.in-Ok.frame hex in
+          let e = IsHex_length c.in-Some.hex.now frame hex in
           let filled : eqb (length c.in-Some.hex.now) 0 ≡ false = search rules in
           omega (arith, eqb-false (length c.in-Some.hex.now) 0 filled);
     }
 
-pub returns-in-Err-Digit-clause-none : goal.returns-in-Err-Digit-clause-none
-returns-in-Err-Digit-clause-none c = λ port frame l.
+pub returns-clause-only : goal.returns-clause-only
+returns-clause-only c = λ port frame l.
     let parts = rw take_rest at c.in-Some.ensures.parts in
     let same = same_parts c.args.limit c.args.ports c.args.line.now c.in-Some.digits.now c.in-Some.hex.now port frame
     l parts.1 parts.0 in
-    let digits : list_all is_digit c.in-Some.hex.now ≡ true = rw same.1 at (IsHex_digits l.hex frame l.octets) in
-    let wrong : list_all is_digit c.in-Some.hex.now ≡ false = c.hex_octets_in.ensures.digit.0 (search rules) in
-    cc
-
-pub returns-in-Err-Odd-clause-none : goal.returns-in-Err-Odd-clause-none
-returns-in-Err-Odd-clause-none c = λ port frame l.
-    let parts = rw take_rest at c.in-Some.ensures.parts in
-    let same = same_parts c.args.limit c.args.ports c.args.line.now c.in-Some.digits.now c.in-Some.hex.now port frame
-    l parts.1 parts.0 in
-    let even : length c.in-Some.hex.now ≡ 2 * length frame = rw same.1 at (IsHex_length l.hex frame l.octets) in
-    let odd = (c.hex_octets_in.ensures.odd.0 (search rules)).1 in
-    omega (arith, odd)
+    let octets : IsHex c.in-Some.hex.now frame = rw same.1 at l.octets in
+    octets

@@ -39,15 +39,15 @@ returns-clause-steps g c =
           (planned_states_stay spanning_tree plan c.new.result fixed lawful unset);
     }
 
-pub returns-clause-unset : goal.returns-clause-unset
-returns-clause-unset g c = λ still.
-    subst (λ (r : Record). AllByRecursion (λ steps. list_any is_setting steps ≡ false) r.bridges) (sym c.new.ensures)
-    (c.bridge_lists-bridges.ensures.unset still)
-
-pub returns-clause-whole : goal.returns-clause-whole
-returns-clause-whole g c = λ waits.
-    subst (λ (r : Record). AllByRecursion (λ steps. list_any refuses_when_full steps ≡ false) r.bridges)
-    (sym c.new.ensures) (c.bridge_lists-bridges.ensures.whole waits)
+pub returns-clause-mode : goal.returns-clause-mode
+returns-clause-mode g c = record {
+  unset = λ still.
+      subst (λ (r : Record). AllByRecursion (λ steps. list_any is_setting steps ≡ false) r.bridges) (sym c.new.ensures)
+      (c.bridge_lists-bridges.ensures.unset still);
+  whole = λ waits.
+      subst (λ (r : Record). AllByRecursion (λ steps. list_any refuses_when_full steps ≡ false) r.bridges)
+      (sym c.new.ensures) (c.bridge_lists-bridges.ensures.whole waits);
+}
 
 pub returns-clause-kept : goal.returns-clause-kept
 returns-clause-kept g c = λ keeps.
