@@ -154,7 +154,7 @@ fn run_built<W: Wiring + Send, G: Gate, R: Threads + Wait + Clock + Sync>(
         lanes: built.lanes,
         bridges: built.bridges,
     };
-    let Worked { places, verdict } = run_all(rt, alloc, plan, places, gate, limits, left);
+    let Worked { places, verdict } = run_all(rt, alloc, places, gate, limits, left);
     let causes = causes_of(&places);
     let Parts {
         ports,

@@ -2,15 +2,17 @@
 //! socket, and live counts.
 //!
 //! [`Steering`] is a gate between the workers and the caller's gate. It hands a bridge's worker the wishes that are
-//! due: those of the plan's events, by the ticks of that bridge, and those of the control socket. Begin reading at
-//! [`Steering`].
+//! due: those of the plan's events, by the ticks of that bridge, and those of the control socket. It has the bells of
+//! the workers. Begin reading at [`Steering`].
 #![tactic(auto)]
 
 mod agenda;
 mod mailbox;
+mod progress;
 mod steering;
 mod traffic;
 mod views;
 
-pub use steering::{Opening, RunProgress, Steering};
+pub use progress::{Opening, PeerChange, RunProgress};
+pub use steering::Steering;
 pub use traffic::Traffic;

@@ -5,13 +5,14 @@ ghost use Rattle.pb_lan.specs.Plans.{IsSound};
 
 use crate::agenda::Agenda;
 use crate::mailbox::Mailbox;
+use crate::progress::{Opening, PeerChange, RunProgress};
 use crate::traffic::Traffic;
 use crate::views::Views;
 use pb_control_socket::{Board, Control};
 use pb_frame::Memory;
 use pb_lan::{Place, Plan};
 use pb_service::PortEvent;
-use pb_threads::{Gate, Go, PortView, Wish};
+use pb_threads::{Bells, Gate, Go, PortView, Wish};
 use std::alloc::Global;
 use std::fs::Files;
 use std::sync::Mutex;
@@ -23,24 +24,6 @@ const LOOK: u64 = 16;
 /// The number of ticks of each bridge after which frames enter even if the bridges have not converged.
 const PATIENCE: u64 = 200;
 
-/// The reason why frames may enter that were held back until the bridges converged.
-#[derive(Clone, Copy, PartialEq, Eq, Debug)]
-pub enum Opening {
-    /// The bridges seem settled. The one that ticked most has ticked this often.
-    Settled(u64),
-    /// The bridges do not seem settled, and the wait is over. The one that ticked least has ticked this often.
-    Unsettled(u64),
-}
-
-/// A gate that receives the progress of its run.
-pub trait RunProgress: Gate {
-    /// Receives that frames may enter. They were held back until the bridges converged.
-    fn open(&self, opening: Opening);
-
-    /// Receives that the run is over: no worker runs any more, and no report is printed yet.
-    fn close(&self);
-}
-
 /// The planned events, the wishes and the views of one bridge.
 #[derive(Drop)]
 struct Course {
@@ -49,8 +32,8 @@ struct Course {
     views: Views,
 }
 
-/// The gate that steers a run. It hands bridges the wishes that are due, serves the control socket, counts, and
-/// otherwise passes calls to the gate inside.
+/// The gate that steers a run. It hands bridges the wishes that are due, serves the control socket, counts, has the
+/// bells that wake workers, and otherwise passes calls to the gate inside.
 #[derive(Drop)]
 pub struct Steering<'a, G> {
     gate: &'a G,
@@ -58,6 +41,10 @@ pub struct Steering<'a, G> {
     traffic: &'a Traffic,
     /// The course of each bridge, in the order of the plan.
     courses: Vec<Course>,
+    /// The bells of the workers.
+    bells: Bells,
+    /// For each customer port 1 if it is watched.
+    watched: Vec<AtomicU64>,
     /// The control socket, while there is one.
     control: Mutex<Option<Control>>,
     /// 1 once the run is to end.
@@ -97,6 +84,19 @@ fn courses_of(alloc: Global, plan: &Plan, events: Vec<PortEvent>) -> Result<Vec<
     Ok(courses)
 }
 
+/// Returns a list of this many zeros.
+///
+/// # Errors
+///
+/// `Memory` if an allocation failed.
+fn zeros(alloc: Global, count: usize) -> Result<Vec<AtomicU64>, Memory> {
+    let mut zeros = Vec::new(alloc);
+    for _ in 0..count {
+        zeros.push(AtomicU64::new(0))?;
+    }
+    Ok(zeros)
+}
+
 impl<'a, G> Steering<'a, G> {
     /// Returns the gate that steers a run of a sound plan with these events, around the caller's gate. It has no
     /// control socket. If it `waits` for the bridges, no frame enters before each bridge has ports in the states of
@@ -122,10 +122,20 @@ impl<'a, G> Steering<'a, G> {
             plan,
             traffic,
             courses,
+            bells: Bells::new(alloc, plan)?,
+            watched: zeros(alloc, plan.customers.len())?,
             control: Mutex::new(None),
             stop: AtomicU64::new(0),
             open: AtomicU64::new(if waits { 0 } else { 1 }),
         })
+    }
+
+    /// Checks whether the customer port of this number, from 1, is watched.
+    fn is_port_watched(&self, port: u8) -> bool {
+        match self.watched.get(usize::from(port).wrapping_sub(1)) {
+            Some(word) => word.load(Ordering::SeqCst) != 0,
+            None => false,
+        }
     }
 
     /// Returns how many events have not come.
@@ -135,6 +145,25 @@ impl<'a, G> Steering<'a, G> {
             left = left.saturating_add(course.agenda.left());
         }
         left
+    }
+
+    /// Returns the bells that wake the workers of the run. The bell of a watched customer port is to be rung when its
+    /// devices have octets or room.
+    pub fn bells(&self) -> &Bells {
+        &self.bells
+    }
+
+    /// Wakes the worker of the first bridge, which takes a turn of the control socket.
+    pub fn ring_first(&self) {
+        self.bells.ring(Place::Bridge(1));
+    }
+
+    /// Notes that the customer port of this number, from 1, is watched: from now on its worker sleeps until its bell
+    /// rings, for 50 milliseconds at most, while its devices have nothing.
+    pub fn watch(&self, port: u8) {
+        if let Some(word) = self.watched.get(usize::from(port).wrapping_sub(1)) {
+            word.store(1, Ordering::SeqCst);
+        }
     }
 
     /// Adds a control socket. Its peers steer the run too.
@@ -202,6 +231,15 @@ impl<'a, G> Steering<'a, G> {
         None
     }
 
+    /// Lets frames enter, if they were held back and may enter now, and wakes all workers. Returns the reason why they
+    /// may.
+    fn let_in(&self) -> Option<Opening> {
+        let opening = self.opening()?;
+        self.open.store(1, Ordering::SeqCst);
+        self.bells.ring_all();
+        Some(opening)
+    }
+
     /// Takes a turn of the control socket, and returns whether the run goes on.
     fn attend(&self) -> Go {
         if let Some(mut held) = self.control.try_lock() {
@@ -225,6 +263,7 @@ impl<G> Board for Steering<'_, G> {
     fn set(&self, bridge: u8, port: u8, up: bool) {
         if let Some(course) = self.courses.get(usize::from(bridge).wrapping_sub(1)) {
             course.mailbox.put(Wish { port, up });
+            self.bells.ring(Place::Bridge(bridge));
         }
     }
 
@@ -247,9 +286,8 @@ impl<G> Board for Steering<'_, G> {
 impl<G: RunProgress> Gate for Steering<'_, G> {
     fn pass(&self, place: Place, turn: u64) -> Go {
         if turn % LOOK == 0 && place == Place::Bridge(1) {
-            if let Some(opening) = self.opening() {
+            if let Some(opening) = self.let_in() {
                 self.gate.open(opening);
-                self.open.store(1, Ordering::SeqCst);
             }
             if self.attend() == Go::Stop {
                 return Go::Stop;
@@ -258,8 +296,34 @@ impl<G: RunProgress> Gate for Steering<'_, G> {
         self.gate.pass(place, turn)
     }
 
+    fn pass_when_idle(&self, place: Place, turn: u64) -> Go {
+        if place == Place::Bridge(1) {
+            if let Some(opening) = self.let_in() {
+                self.gate.open(opening);
+            }
+            if self.attend() == Go::Stop {
+                return Go::Stop;
+            }
+        }
+        self.gate.pass_when_idle(place, turn)
+    }
+
     fn lets_sleep(&self, place: Place) -> bool {
-        place != Place::Bridge(1) && self.gate.lets_sleep(place)
+        self.gate.lets_sleep(place)
+    }
+
+    fn bells(&self) -> Option<&Bells> {
+        Some(&self.bells)
+    }
+
+    /// Checks whether the bell of a place is rung from outside. The worker of the first bridge serves the control
+    /// socket, so that it sleeps no longer than that of a watched port.
+    fn is_watched(&self, place: Place) -> bool {
+        match place {
+            Place::Customer(port) => self.is_port_watched(port),
+            Place::Bridge(bridge) => bridge == 1,
+            Place::Lane(_) => false,
+        }
     }
 
     fn is_open(&self) -> bool {
@@ -299,5 +363,9 @@ impl<G: RunProgress> RunProgress for Steering<'_, G> {
 
     fn close(&self) {
         self.gate.close();
+    }
+
+    fn peer(&self, port: &str, change: PeerChange) {
+        self.gate.peer(port, change);
     }
 }

@@ -48,7 +48,7 @@ impl Bell {
 
 /// The bells of the workers of a plan: first those of the customer ports, then those of the lanes and of the bridges.
 #[derive(Drop)]
-pub(crate) struct Bells {
+pub struct Bells {
     bells: Vec<Bell>,
     /// The number of customer ports.
     customers: usize,
@@ -59,12 +59,12 @@ pub(crate) struct Bells {
 }
 
 impl Bells {
-    /// Returns the bells of a plan's workers, which are awake.
+    /// Returns the bells of the workers of a plan.
     ///
     /// # Errors
     ///
     /// `AllocError` if an allocation failed.
-    pub(crate) fn new(alloc: Global, plan: &Plan) -> Result<Bells, AllocError> {
+    pub fn new(alloc: Global, plan: &Plan) -> Result<Bells, AllocError> {
         let (customers, lanes) = (plan.customers.len(), plan.links.len().wrapping_mul(2));
         let (places, bridges) = (customers.wrapping_add(lanes), plan.bridges.len());
         let mut bells = Vec::new(alloc);
@@ -167,8 +167,15 @@ impl Bells {
         }
     }
 
-    /// Wakes all workers.
-    pub(crate) fn ring_all(&self) {
+    /// Wakes the worker of a place, if the plan has it and it sleeps. If it is about to sleep, it takes one more turn.
+    pub fn ring(&self, place: Place) {
+        if let Some(bell) = self.bells.get(self.worker(place)) {
+            bell.ring();
+        }
+    }
+
+    /// Wakes all workers that sleep.
+    pub fn ring_all(&self) {
         for bell in self.bells.as_slice() {
             bell.ring();
         }

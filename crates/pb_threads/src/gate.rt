@@ -1,5 +1,6 @@
 //! The gate that each worker passes before a turn, and the wishes that it hands on.
 
+use crate::bells::Bells;
 use crate::view::PortView;
 use pb_lan::Place;
 
@@ -27,15 +28,33 @@ pub trait Gate: Sync {
     /// slept leaves out the numbers of the turns that it would have taken meanwhile.
     fn pass(&self, place: Place, turn: u64) -> Go;
 
+    /// Decides as [`Gate::pass`] does, before a turn of a worker that finds nothing to do: it has slept, or it sleeps
+    /// after this turn if that is idle. What a gate does once in so many turns, it does here each time.
+    fn pass_when_idle(&self, place: Place, turn: u64) -> Go {
+        self.pass(place, turn)
+    }
+
     /// Returns the next wish for a place, if there is one. The worker fulfils it in place of its next turn, and asks
     /// again. The place's clock has ticked `now` times. A wish is returned once.
     fn wish(&self, _place: Place, _now: u32) -> Option<Wish> {
         None
     }
 
-    /// Checks whether the worker of a place may sleep for up to 50 milliseconds while nothing is to do. It wakes when a
-    /// place beside it takes a step, and when its clock ticks. Otherwise it passes the gate at least twice a millisecond.
+    /// Checks whether the worker of a place may sleep until its bell rings, while nothing is to do. It wakes when a place
+    /// beside it takes a step, when its clock ticks, and after a second. Otherwise it passes the gate at least twice a
+    /// millisecond.
     fn lets_sleep(&self, _place: Place) -> bool {
+        false
+    }
+
+    /// Returns the bells of the workers. Without bells nobody sleeps longer than half a millisecond.
+    fn bells(&self) -> Option<&Bells> {
+        None
+    }
+
+    /// Checks whether something rings the bell of a place when its devices have octets or room. The worker of such a
+    /// place sleeps for 50 milliseconds at most.
+    fn is_watched(&self, _place: Place) -> bool {
         false
     }
 
@@ -50,4 +69,18 @@ pub trait Gate: Sync {
     /// Receives the role and the state of a local port of a place: of each port before the place's first turn, and
     /// after each turn that may have changed one.
     fn shows(&self, _place: Place, _port: u8, _view: PortView) {}
+}
+
+/// Wakes all workers that sleep on the bells of a gate.
+pub(crate) fn ring_all<G: Gate>(gate: &G) {
+    if let Some(bells) = gate.bells() {
+        bells.ring_all();
+    }
+}
+
+/// Wakes the workers beside a customer port, a lane, or a local port of a bridge.
+pub(crate) fn ring_beside<G: Gate>(gate: &G, place: Place, port: u8) {
+    if let Some(bells) = gate.bells() {
+        bells.ring_beside(place, port);
+    }
 }

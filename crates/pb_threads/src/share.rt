@@ -1,5 +1,6 @@
 //! A worker's share of what is left to do.
 
+use crate::gate::Gate;
 use crate::words::Words;
 
 /// The amount that a worker takes or gives back at once.
@@ -26,21 +27,21 @@ impl Share {
     }
 
     /// Counts what a turn added to what is left to do and took from it.
-    pub(crate) fn count(&mut self, words: &Words, more: u64, fewer: u64) {
+    pub(crate) fn count<G: Gate>(&mut self, gate: &G, words: &Words, more: u64, fewer: u64) {
         if more > 0 || fewer > 0 {
             self.quiet = 0;
-            self.reckon(words, more, fewer);
+            self.reckon(gate, words, more, fewer);
             return;
         }
         self.quiet = self.quiet.saturating_add(1);
         if self.quiet >= PATIENCE {
-            self.give_back(words);
+            self.give_back(gate, words);
         }
     }
 
     /// Counts against the spare amount. Adds to the shared counter if too little is spare, and subtracts if too much
     /// is.
-    fn reckon(&mut self, words: &Words, more: u64, fewer: u64) {
+    fn reckon<G: Gate>(&mut self, gate: &G, words: &Words, more: u64, fewer: u64) {
         let mut spare = self.spare.saturating_add(fewer);
         if spare < more {
             let part = (more - spare).saturating_add(PART);
@@ -49,16 +50,16 @@ impl Share {
         }
         spare = spare.saturating_sub(more);
         if spare > 2 * PART {
-            words.take(spare - PART);
+            words.take(gate, spare - PART);
             spare = PART;
         }
         self.spare = spare;
     }
 
     /// Gives all of it back.
-    fn give_back(&mut self, words: &Words) {
+    fn give_back<G: Gate>(&mut self, gate: &G, words: &Words) {
         if self.spare > 0 {
-            words.take(self.spare);
+            words.take(gate, self.spare);
             self.spare = 0;
         }
     }

@@ -6,11 +6,10 @@ ghost use Rattle.std.specs.VecDeque.{deque_len, deque_capacity};
 ghost use Rattle.pb_threads.specs.Started.{IsBack, IsHeld};
 ghost use Rattle.pb_threads.specs.Together.{AllFit, AreBack, AreUntouched};
 
-use crate::bells::Bells;
 use crate::gate::Gate;
 use crate::turns::{Back, Work, run_place};
 use crate::words::Words;
-use pb_lan::{Limits, Plan};
+use pb_lan::Limits;
 use std::alloc::Global;
 use std::collections::VecDeque;
 use std::snapshot::Snapshot;
@@ -239,9 +238,9 @@ fn verdict_of(have_begun: bool) -> Result<(), WorkFault>
     }
 }
 
-/// Runs a worker for each place of a plan in a thread of its own, and joins them all. The plan says which places are
-/// beside each other: a worker that sleeps wakes when one beside it takes a step. `left` counts what there is to do at the
-/// start. Each turn reports how that count changes, and all workers end when it is 0.
+/// Runs a worker for each place in a thread of its own, and joins them all. Workers sleep on the bells of the gate.
+/// `left` counts what there is to do at the start. Each turn reports how that count changes, and all workers end when it
+/// is 0.
 ///
 /// Each place comes back with what it was given, and as it may be between turns. The verdict is `Memory` if an
 /// allocation failed before the workers were started, and `Spawn` if a thread could not be started. No worker takes a
@@ -255,7 +254,6 @@ pub fn run_all<
 >(
     rt: &R,
     alloc: Global,
-    plan: &Plan,
     places: Places<C, L, B>,
     gate: &G,
     limits: Limits,
@@ -267,11 +265,7 @@ pub fn run_all<
     ensures bridges { AreBack B.given B.fits places.bridges.items result.places.bridges.items }
     ensures untouched { IfErr result.verdict (λ fault. AreUntouched places result.places) }
 {
-    let Ok(bells) = Bells::new(alloc, plan) else {
-        let verdict = Err(WorkFault::Memory);
-        return Worked { places, verdict };
-    };
-    let words = Words::new(left, bells);
+    let words = Words::new(left);
     let shared = &words;
     thread::scope(
         thread::scope_env(),

@@ -5,7 +5,7 @@ ghost use Rattle.std.specs.declared.option.Option.{Option};
 ghost use Rattle.pb_threads.specs.declared.view.PortView.{PortView};
 ghost use Rattle.pb_threads.specs.Started.{IsBack};
 
-use crate::gate::{Gate, Go, Wish};
+use crate::gate::{Gate, Go, Wish, ring_beside};
 use crate::share::Share;
 use crate::ticks::{Moment, Ticks};
 use crate::view::PortView;
@@ -92,8 +92,9 @@ pub trait Work: Drop {
     fn shown(&self, port: u8) -> Option<PortView>
         ensures { result ≡ shown_of self.now port };
 
-    /// Checks whether only a place beside this one, or its clock, can give it something to do.
-    fn may_sleep(&self) -> bool {
+    /// Checks whether something that rings the place's bell, or its clock, has to come before there is something to do:
+    /// a step of a place beside this one or, if the place `is_watched`, its devices.
+    fn may_sleep(&self, _is_watched: bool) -> bool {
         true
     }
 
@@ -119,51 +120,94 @@ pub trait Work: Drop {
         ensures fits { fits self.new };
 }
 
-/// The longest sleep, in milliseconds.
-const LONGEST: u64 = 50;
+/// The longest sleep of a watched place, in milliseconds. A ring that is missed costs no more.
+const SHORT: u64 = 50;
+
+/// The longest sleep of another place, in milliseconds.
+const LONG: u64 = 1_000;
 
 /// The number of turns that a worker would take in a millisecond if it did not sleep longer than it has to.
 const TURNS: u64 = 2;
 
+/// The pace of a worker after a turn.
+#[derive(Clone, Copy)]
+struct Pace {
+    /// The number of idle turns in a row.
+    idle: u32,
+    /// The number of the next turn, if it is greater than that of the last turn and one.
+    next: u64,
+    /// Whether the worker has slept, or sleeps after the next turn if that is idle.
+    is_drowsy: bool,
+}
+
+impl Pace {
+    /// The pace of a worker that has something to do.
+    const BUSY: Pace = Pace {
+        idle: 0,
+        next: 0,
+        is_drowsy: false,
+    };
+}
+
+/// Returns for how many milliseconds a worker may sleep until its bell rings. 0 if the place or the gate does not allow
+/// it, or a tick is due.
+fn sleep_time<T: Work, G: Gate, R: Clock>(rt: &R, owned: &T, gate: &G, ticks: &Ticks) -> u64 {
+    let place = owned.place();
+    let is_watched = gate.is_watched(place);
+    if !gate.lets_sleep(place) || !owned.may_sleep(is_watched) {
+        return 0;
+    }
+    ticks.until_tick(rt, if is_watched { SHORT } else { LONG })
+}
+
 /// Yields the processor after one of the first 64 idle turns in a row. Then sleeps: if the place and the gate allow it,
-/// until a bell rings or the clock ticks, else for half a millisecond. Returns the number of turns that pass meanwhile.
+/// until a bell rings or the clock ticks, else for half a millisecond. Returns the pace after that. The turns that pass
+/// in a whole sleep count.
 fn rest<T: Work, G: Gate, R: Wait + Clock>(
     rt: &R,
     owned: &T,
     gate: &G,
-    words: &Words,
     ticks: &Ticks,
+    turn: u64,
     idle: u32,
-) -> u64 {
+) -> Pace {
+    let mut pace = Pace {
+        idle: idle.saturating_add(1),
+        ..Pace::BUSY
+    };
     if idle < 64 {
         thread::yield_now();
-        return 0;
+        return pace;
     }
-    let place = owned.place();
-    if gate.lets_sleep(place) && owned.may_sleep() {
-        let millis = ticks.until_tick(rt, LONGEST);
-        if millis > 0 {
-            let has_slept = words.bells.doze(rt, place, Duration::from_millis(millis));
-            return if has_slept {
-                millis.saturating_mul(TURNS)
-            } else {
-                0
-            };
+    let millis = sleep_time(rt, owned, gate, ticks);
+    match gate.bells() {
+        Some(bells) if millis > 0 => {
+            pace.is_drowsy = true;
+            if bells.doze(rt, owned.place(), Duration::from_millis(millis)) {
+                pace.next = turn.saturating_add(millis.saturating_mul(TURNS));
+            }
+        }
+        _ => {
+            let micros = u64::from(idle).saturating_sub(60).min(500);
+            thread::sleep(rt, Duration::from_micros(micros));
         }
     }
-    let micros = (u64::from(idle) - 60).min(500);
-    thread::sleep(rt, Duration::from_micros(micros));
-    0
+    pace
 }
 
 /// Checks whether the worker ends before its next turn. If the gate stops it, the others end too.
-fn is_ended<G: Gate>(gate: &G, words: &Words, place: Place, turn: u64) -> bool {
+fn is_ended<G: Gate>(gate: &G, words: &Words, place: Place, turn: u64, is_drowsy: bool) -> bool {
     if !words.go_on() {
         return true;
     }
-    let is_stopped = gate.pass(place, turn) == Go::Stop;
+    let go = if is_drowsy {
+        gate.pass_when_idle(place, turn)
+    } else {
+        gate.pass(place, turn)
+    };
+    let is_stopped = go == Go::Stop;
     if is_stopped {
-        words.end();
+        words.end(gate);
     }
     is_stopped
 }
@@ -223,18 +267,17 @@ fn take_turns<T: Work, G: Gate, R: Wait + Clock>(
     ensures fits { T.fits owned.new }
 {
     let place = owned.place();
-    let (mut idle, mut share) = (0u32, Share::new());
-    let mut next = 0u64;
+    let (mut pace, mut share) = (Pace::BUSY, Share::new());
     show_ports(owned, gate, place);
     for turn in 0..turns {
-        if turn < next {
+        if turn < pace.next {
             continue;
         }
-        if is_ended(gate, words, place, turn) {
+        if is_ended(gate, words, place, turn, pace.is_drowsy) {
             return Finish::Told;
         }
         let turned = take_turn(rt, owned, gate, place, ticks);
-        share.count(words, turned.more, turned.fewer);
+        share.count(gate, words, turned.more, turned.fewer);
         if turned.refused > 0 {
             gate.refused(place, turned.refused);
         }
@@ -244,14 +287,11 @@ fn take_turns<T: Work, G: Gate, R: Wait + Clock>(
         if let Some(finish) = own_end(turned.status) {
             return finish;
         }
-        idle = match turned.status {
-            TurnStatus::Idle => {
-                next = turn.saturating_add(rest(rt, owned, gate, words, ticks, idle));
-                idle.saturating_add(1)
-            }
+        pace = match turned.status {
+            TurnStatus::Idle => rest(rt, owned, gate, ticks, turn, pace.idle),
             _ => {
-                words.bells.ring_beside(place, turned.port);
-                0
+                ring_beside(gate, place, turned.port);
+                Pace::BUSY
             }
         };
     }
@@ -289,7 +329,7 @@ pub(crate) fn run_place<T: Work, G: Gate, R: Wait + Clock>(
     let mut ticks = Ticks::new(rt, limits);
     let finish = take_turns(rt, &mut owned, gate, words, &mut ticks, limits.turns);
     if finish != Finish::Told {
-        words.end();
+        words.end(gate);
     }
     owned.close(ticks.last(), finish);
     Back {

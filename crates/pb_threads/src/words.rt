@@ -1,6 +1,6 @@
 //! The counters that workers share. They begin and end loops, and no contract speaks of them.
 
-use crate::bells::Bells;
+use crate::gate::{Gate, ring_all};
 use std::sync::Wait;
 use std::sync::atomic::{AtomicU64, Ordering};
 use std::thread;
@@ -21,18 +21,15 @@ pub(crate) struct Words {
     stop: AtomicU64,
     /// The upper bound of what is left to do.
     left: AtomicU64,
-    /// The bells of the workers.
-    pub bells: Bells,
 }
 
 impl Words {
-    /// Returns the counters of a run with this much left to do, for workers with these bells.
-    pub(crate) fn new(left: u64, bells: Bells) -> Words {
+    /// Returns the counters of a run with this much left to do.
+    pub(crate) fn new(left: u64) -> Words {
         Words {
             start: AtomicU64::new(WAIT),
             stop: AtomicU64::new(0),
             left: AtomicU64::new(left),
-            bells,
         }
     }
 
@@ -70,16 +67,16 @@ impl Words {
         self.left.fetch_add(more, Ordering::SeqCst);
     }
 
-    /// Subtracts from what is left to do. If nothing is left, all workers wake.
-    pub(crate) fn take(&self, fewer: u64) {
+    /// Subtracts from what is left to do. If nothing is left, all workers of the gate wake.
+    pub(crate) fn take<G: Gate>(&self, gate: &G, fewer: u64) {
         if self.left.fetch_sub(fewer, Ordering::SeqCst) == fewer {
-            self.bells.ring_all();
+            ring_all(gate);
         }
     }
 
-    /// Ends all workers before their next turn.
-    pub(crate) fn end(&self) {
+    /// Ends all workers of the gate before their next turn.
+    pub(crate) fn end<G: Gate>(&self, gate: &G) {
         self.stop.store(1, Ordering::SeqCst);
-        self.bells.ring_all();
+        ring_all(gate);
     }
 }

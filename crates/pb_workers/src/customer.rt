@@ -204,7 +204,12 @@ impl<W: Wiring, P: Port> Work for CustomerWorker<W, P> {
         None
     }
 
-    fn may_sleep(&self) -> bool {
+    /// Checks whether the port has to wait for its bridge or its devices. A frame that its ring does not take keeps the
+    /// worker awake. If nothing watches its devices, so do frames that may come or wait to leave.
+    fn may_sleep(&self, is_watched: bool) -> bool {
+        if is_watched {
+            return self.access.place.is_hand_empty();
+        }
         self.access.book.last != Last::More
             && self.access.offered.is_none()
             && self.port.unsent().is_empty()

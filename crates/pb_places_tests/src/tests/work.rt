@@ -4,7 +4,6 @@ mod sleeping;
 
 ghost use Rattle.std.specs.Prelude.{◌==◌, Some, None, if◌then◌else◌};
 
-use super::floor::plan;
 use pb_lan::{Limits, Place, PortState};
 use pb_threads::{
     Finish, Gate, Go, Moment, Places, PortView, Turn, TurnStatus, Wish, Work, Worked, run_all,
@@ -176,15 +175,7 @@ fn all_workers_run_at_once_and_end_when_nothing_is_left(rt: HostRuntime) -> Resu
         hold: 0,
     };
     let places = office(rt.alloc(), 20)?;
-    let Worked { places, verdict } = run_all(
-        &rt,
-        rt.alloc(),
-        &plan(rt.alloc())?,
-        places,
-        &gate,
-        limits,
-        120,
-    );
+    let Worked { places, verdict } = run_all(&rt, rt.alloc(), places, &gate, limits, 120);
     assert!(rt; verdict.is_ok());
     assert_eq!(rt; gate.here.load(Ordering::SeqCst), 6);
     for desk in together(places)? {
@@ -215,15 +206,7 @@ fn a_worker_takes_so_many_turns_at_most(rt: HostRuntime) -> Result<(), Fail> {
         hold: 0,
     };
     let places = office(rt.alloc(), 20)?;
-    let Worked { places, verdict } = run_all(
-        &rt,
-        rt.alloc(),
-        &plan(rt.alloc())?,
-        places,
-        &Open,
-        limits,
-        121,
-    );
+    let Worked { places, verdict } = run_all(&rt, rt.alloc(), places, &Open, limits, 121);
     assert!(rt; verdict.is_ok());
     let mut is_limit = false;
     for desk in together(places)? {
@@ -244,15 +227,7 @@ fn frames_may_enter_after_so_many_ticks(rt: HostRuntime) -> Result<(), Fail> {
         hold: 2,
     };
     let places = office(rt.alloc(), 20)?;
-    let Worked { places, verdict } = run_all(
-        &rt,
-        rt.alloc(),
-        &plan(rt.alloc())?,
-        places,
-        &Open,
-        limits,
-        121,
-    );
+    let Worked { places, verdict } = run_all(&rt, rt.alloc(), places, &Open, limits, 121);
     assert!(rt; verdict.is_ok());
     for desk in together(places)? {
         assert_eq!(rt; desk.opened, desk.turns.saturating_sub(6));
@@ -269,15 +244,7 @@ fn a_clock_by_time_ticks_whatever_the_turns(rt: HostRuntime) -> Result<(), Fail>
         hold: 0,
     };
     let places = office(rt.alloc(), 0)?;
-    let Worked { places, verdict } = run_all(
-        &rt,
-        rt.alloc(),
-        &plan(rt.alloc())?,
-        places,
-        &Open,
-        limits,
-        1,
-    );
+    let Worked { places, verdict } = run_all(&rt, rt.alloc(), places, &Open, limits, 1);
     assert!(rt; verdict.is_ok());
     let mut has_ticked = false;
     for desk in together(places)? {
@@ -311,7 +278,6 @@ fn a_gate_stops_the_workers(rt: HostRuntime) -> Result<(), Fail> {
         let Worked { places, verdict } = run_all(
             &rt,
             rt.alloc(),
-            &plan(rt.alloc())?,
             places,
             &StopAt(turns),
             limits,
@@ -371,15 +337,7 @@ fn wishes_take_the_place_of_turns(rt: HostRuntime) -> Result<(), Fail> {
         shown: AtomicU64::new(0),
     };
     let places = office(rt.alloc(), 20)?;
-    let Worked { places, verdict } = run_all(
-        &rt,
-        rt.alloc(),
-        &plan(rt.alloc())?,
-        places,
-        &gate,
-        limits,
-        121,
-    );
+    let Worked { places, verdict } = run_all(&rt, rt.alloc(), places, &gate, limits, 121);
     assert!(rt; verdict.is_ok());
     let (mut wishes, mut turns, mut ticks) = (0u64, 0u64, 0u64);
     for desk in together(places)? {
@@ -421,15 +379,7 @@ fn a_gate_holds_frames_back(rt: HostRuntime) -> Result<(), Fail> {
         hold: 0,
     };
     let places = office(rt.alloc(), 20)?;
-    let Worked { places, verdict } = run_all(
-        &rt,
-        rt.alloc(),
-        &plan(rt.alloc())?,
-        places,
-        &Shut,
-        limits,
-        121,
-    );
+    let Worked { places, verdict } = run_all(&rt, rt.alloc(), places, &Shut, limits, 121);
     assert!(rt; verdict.is_ok());
     for desk in together(places)? {
         assert!(rt; desk.opened == 0 && desk.turns <= 12);

@@ -2,21 +2,68 @@
 
 use super::{office, together};
 use crate::tests::floor::plan;
+use pb_frame::Memory;
 use pb_lan::{Limits, Place};
-use pb_threads::{Finish, Gate, Go, Worked, run_all};
+use pb_threads::{Bells, Finish, Gate, Go, Worked, run_all};
+use std::alloc::Global;
+use std::sync::atomic::{AtomicU64, Ordering};
 use std::test::Fail;
+use std::thread;
+use std::time::{Clock, Duration};
 
-/// A gate that lets workers go on, and sleep.
-#[derive(Clone, Copy)]
-struct Quiet;
+/// A gate that lets workers sleep, and stops them once the first customer port has found nothing so many times.
+#[derive(Drop)]
+struct Quiet {
+    bells: Bells,
+    /// Whether the first customer port is watched.
+    is_watched: bool,
+    /// How many times the first customer port may still find nothing.
+    left: AtomicU64,
+}
+
+/// Returns a gate that lets the first customer port find nothing so many times.
+fn quiet_gate(alloc: Global, is_watched: bool, left: u64) -> Result<Quiet, Memory> {
+    Ok(Quiet {
+        bells: Bells::new(alloc, &plan(alloc)?)?,
+        is_watched,
+        left: AtomicU64::new(left),
+    })
+}
 
 impl Gate for Quiet {
     fn pass(&self, _place: Place, _turn: u64) -> Go {
         Go::Go
     }
 
+    fn pass_when_idle(&self, place: Place, _turn: u64) -> Go {
+        if place != Place::Customer(1) {
+            return Go::Go;
+        }
+        let left = self.left.load(Ordering::SeqCst).saturating_sub(1);
+        self.left.store(left, Ordering::SeqCst);
+        if left == 0 { Go::Stop } else { Go::Go }
+    }
+
     fn lets_sleep(&self, _place: Place) -> bool {
         true
+    }
+
+    fn bells(&self) -> Option<&Bells> {
+        Some(&self.bells)
+    }
+
+    fn is_watched(&self, place: Place) -> bool {
+        self.is_watched && place == Place::Customer(1)
+    }
+}
+
+/// Returns limits of this many turns, for clocks of this many milliseconds.
+fn limits_of(turns: u64, tick_ms: u64) -> Limits {
+    Limits {
+        turns,
+        tick_every: 0,
+        tick_ms,
+        hold: 0,
     }
 }
 
@@ -25,25 +72,13 @@ impl Gate for Quiet {
 #[test]
 fn workers_that_sleep_end_with_the_others(rt: HostRuntime) -> Result<(), Fail> {
     for tick_ms in [0, 2u64] {
-        let limits = Limits {
-            turns: 1_000_000_000,
-            tick_every: 0,
-            tick_ms,
-            hold: 0,
-        };
+        let limits = limits_of(1_000_000_000, tick_ms);
+        let gate = quiet_gate(rt.alloc(), false, u64::MAX)?;
         let mut places = office(rt.alloc(), 0)?;
         if let Some(desk) = places.bridges.last_mut() {
             desk.jobs = 100_000;
         }
-        let Worked { places, verdict } = run_all(
-            &rt,
-            rt.alloc(),
-            &plan(rt.alloc())?,
-            places,
-            &Quiet,
-            limits,
-            100_000,
-        );
+        let Worked { places, verdict } = run_all(&rt, rt.alloc(), places, &gate, limits, 100_000);
         assert!(rt; verdict.is_ok());
         for desk in together(places)? {
             assert!(rt; desk.jobs == 0 && desk.finish == Some(Finish::Told));
@@ -55,22 +90,10 @@ fn workers_that_sleep_end_with_the_others(rt: HostRuntime) -> Result<(), Fail> {
 /// Checks that the turns that pass while a worker sleeps count.
 #[test]
 fn a_worker_that_sleeps_comes_to_its_last_turn(rt: HostRuntime) -> Result<(), Fail> {
-    let limits = Limits {
-        turns: 400,
-        tick_every: 0,
-        tick_ms: 0,
-        hold: 0,
-    };
+    let gate = quiet_gate(rt.alloc(), false, u64::MAX)?;
     let places = office(rt.alloc(), 0)?;
-    let Worked { places, verdict } = run_all(
-        &rt,
-        rt.alloc(),
-        &plan(rt.alloc())?,
-        places,
-        &Quiet,
-        limits,
-        1,
-    );
+    let limits = limits_of(400, 0);
+    let Worked { places, verdict } = run_all(&rt, rt.alloc(), places, &gate, limits, 1);
     assert!(rt; verdict.is_ok());
     let mut is_limit = false;
     for desk in together(places)? {
@@ -78,5 +101,41 @@ fn a_worker_that_sleeps_comes_to_its_last_turn(rt: HostRuntime) -> Result<(), Fa
         is_limit = is_limit || (desk.finish == Some(Finish::Limit) && desk.turns < 100);
     }
     assert!(rt; is_limit);
+    Ok(())
+}
+
+/// Rings for the first customer port once a millisecond, at most so many times, until its gate has stopped it. Returns
+/// how many times it still might have rung.
+fn ring_on<R: Clock>(rt: &R, gate: &Quiet, most: u32) -> u32 {
+    for rung in 0..most {
+        if gate.left.load(Ordering::SeqCst) == 0 {
+            return most - rung;
+        }
+        gate.bells.ring(Place::Customer(1));
+        thread::sleep(rt, Duration::from_millis(1));
+    }
+    0
+}
+
+/// Checks that the worker of a watched place wakes when its bell rings: in 2,000 milliseconds it finds nothing 400 times,
+/// and it sleeps for 50 milliseconds if nobody rings. A watched place whose bell nobody rings goes on.
+#[test]
+fn a_watched_place_wakes_when_its_bell_rings(rt: HostRuntime) -> Result<(), Fail> {
+    for (most, left) in [(2_000u32, 400u64), (0, 4)] {
+        let alloc = rt.alloc();
+        let gate = quiet_gate(alloc, true, left)?;
+        let places = office(alloc, 0)?;
+        let limits = limits_of(1_000_000_000, 0);
+        let run = || run_all(&rt, alloc, places, &gate, limits, 1);
+        let (rings, Worked { places, verdict }) = thread::join(
+            &rt,
+            || ring_on(&rt, &gate, most),
+            run,
+        );
+        assert!(rt; verdict.is_ok() && (rings > 0 || most == 0));
+        for desk in together(places)? {
+            assert!(rt; desk.finish == Some(Finish::Told));
+        }
+    }
     Ok(())
 }

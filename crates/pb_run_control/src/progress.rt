@@ -1,0 +1,40 @@
+//! What the caller's gate receives of a run.
+
+use pb_threads::Gate;
+
+/// The reason why frames may enter that were held back until the bridges converged.
+#[derive(Clone, Copy, PartialEq, Eq, Debug)]
+pub enum Opening {
+    /// The bridges seem settled. The one that ticked most has ticked this often.
+    Settled(u64),
+    /// The bridges do not seem settled, and the wait is over. The one that ticked least has ticked this often.
+    Unsettled(u64),
+}
+
+/// The change of a customer port's peer, at a socket that stays when its peer leaves.
+#[derive(Clone, Copy, PartialEq, Eq, Debug)]
+pub enum PeerChange {
+    /// A peer has connected.
+    Connected,
+    /// The peer has left.
+    Left {
+        /// The number of frames that the peer sent.
+        entered: u64,
+        /// The number of frames that the peer was sent.
+        left: u64,
+        /// The number of frames that waited for the peer and were dropped.
+        dropped: u64,
+    },
+}
+
+/// A gate that receives the progress of its run.
+pub trait RunProgress: Gate {
+    /// Receives that frames may enter. They were held back until the bridges converged.
+    fn open(&self, opening: Opening);
+
+    /// Receives that the run is over: no worker runs any more, and no report is printed yet.
+    fn close(&self);
+
+    /// Receives that the peer of the customer port of this name has changed.
+    fn peer(&self, _port: &str, _change: PeerChange) {}
+}
