@@ -2,7 +2,7 @@
 
 ghost use Rattle.std.specs.Prelude.{◌≡◌};
 
-use pb_port::{Device, Got};
+use pb_port::{Device, Got, Line, Parting};
 use std::cell::Cell;
 
 /// The octets of a device, and its manner.
@@ -88,7 +88,7 @@ impl<'a> Seen<'a> {
         });
     }
 
-    fn note(&self, octets: &[u8]) {
+    pub(super) fn note(&self, octets: &[u8]) {
         let mut sight = self.sight.get();
         for octet in octets {
             let is_wanted = octet_at(self.wanted, sight.written) == Some(*octet);
@@ -183,4 +183,8 @@ impl Device for Hollow {
     fn failures(&self) -> u64 {
         0
     }
+}
+
+impl Line for Hollow {
+    fn renew(&mut self, _parting: Parting) {}
 }

@@ -3,7 +3,7 @@
 use super::device::Hollow;
 use super::memory_ports::check;
 use super::rows::{Row, held};
-use pb_port::{CapturePort, MemoryPort, Offered, Port, Pumped, SocketPort};
+use pb_port::{CapturePort, MemoryPort, Offered, Port, Pumped, SocketPort, StayingPort};
 use std::alloc::{AllocError, Global};
 use std::collections::VecDeque;
 
@@ -68,6 +68,11 @@ fn socket(alloc: Global) -> Result<Any, AllocError> {
     Ok(port)
 }
 
+fn staying(alloc: Global) -> Result<Any, AllocError> {
+    let port: Any = Box::new(alloc, StayingPort::new(alloc, 2, Hollow))?;
+    Ok(port)
+}
+
 /// Returns how many rows hold of a port.
 fn held_boxed(alloc: Global, port: Result<Any, AllocError>) -> usize {
     match port {
@@ -82,6 +87,7 @@ fn shelves_boxed_ports(rt: HostRuntime) {
     let memory = held_boxed(alloc, memory(alloc));
     let capture = held_boxed(alloc, capture(alloc));
     let socket = held_boxed(alloc, socket(alloc));
+    let staying = held_boxed(alloc, staying(alloc));
     let all = BOXED.len();
-    assert_eq!(rt; (memory, capture, socket), (all, all, all));
+    assert_eq!(rt; (memory, capture, socket, staying), (all, all, all, all));
 }
