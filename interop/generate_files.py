@@ -32,6 +32,8 @@ WRONG = [
     "learning",
     "socket",
     "capture",
+    "record",
+    "replay",
     "time",
     2**32 - 1,
     2**32,
@@ -58,7 +60,8 @@ WRONG = [
     "00",
 ]
 NEW_KEYS = ["zz", "aa", "Name", "in", "read", "write", "path", "start", "a b", "é", "queue", "priority", "state"]
-NEW_KEYS += ["listen", "stamp", "kind", "at", "up"]
+NEW_KEYS += ["listen", "stamp", "stay", "kind", "at", "up"]
+PATHS = {"capture": ["read", "write"], "record": ["write"], "replay": ["read"], "socket": ["path"], "listen": ["listen"]}
 
 
 def some_table(chance, document):
@@ -153,17 +156,19 @@ def change_octets(chance, octets):
 
 
 def put_kinds(chance, document):
-    """Makes some ports captures or sockets."""
+    """Makes some ports captures, in both directions or in one, or sockets."""
     for table in document["port"]:
-        kind = chance.choice(["memory"] * 6 + ["capture", "capture", "socket", "listen"])
+        kind = chance.choice(["memory"] * 6 + ["capture", "record", "replay", "socket", "listen"])
         if kind == "memory":
             continue
         table.pop("in", None)
-        table["kind"] = "capture" if kind == "capture" else "socket"
-        for key in {"capture": ["read", "write"], "socket": ["path"], "listen": ["listen"]}[kind]:
+        table["kind"] = "socket" if kind == "listen" else kind
+        for key in PATHS[kind]:
             table[key] = chance.choice(["", "a", "a/b.pcap", "-"])
-        if kind == "capture":
+        if "write" in PATHS[kind]:
             generate.sometimes(chance, 0.5, table, "stamp", lambda: chance.choice(["ticks", "time"]))
+        if table["kind"] == "socket":
+            generate.sometimes(chance, 0.3, table, "stay", lambda: chance.random() < 0.7)
 
 
 def put_events(chance, document):

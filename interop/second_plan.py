@@ -11,7 +11,7 @@ NAME = re.compile(r"[A-Za-z0-9_-]{1,32}\Z")
 ADDRESS = re.compile(r"[0-9A-Fa-f]{2}(-[0-9A-Fa-f]{2}){5}\Z")
 HEX = re.compile(r"([0-9A-Fa-f]{2})*\Z")
 STATES = ("discarding", "learning", "forwarding")
-KINDS = ("memory", "capture", "socket")
+KINDS = ("memory", "capture", "record", "replay", "socket")
 MOST = {"bridge": 32, "link": 64, "service": 64, "event": 128, "port": 128}
 # The value if the file sets no limit.
 UNLIMITED = 2**64 - 1
@@ -153,11 +153,16 @@ KEYS = {
         ("kind", word(KINDS), "memory"),
     ],
 }
+READ = ("read", text(), NONE)
+WRITTEN = [("write", text(), NONE), ("stamp", word(("ticks", "time")), "ticks")]
+STAY = ("stay", (is_truth, lambda _: True), False)
 OF_KIND = {
     "memory": [("in", items(is_text, are_frames), [])],
-    "capture": [("read", text(), NONE), ("write", text(), NONE), ("stamp", word(("ticks", "time")), "ticks")],
-    "socket": [("path", text(), NONE)],
-    "listening": [("listen", text(), NONE)],
+    "capture": [READ, *WRITTEN],
+    "record": WRITTEN,
+    "replay": [READ],
+    "socket": [("path", text(), NONE), STAY],
+    "listening": [("listen", text(), NONE), STAY],
 }
 
 

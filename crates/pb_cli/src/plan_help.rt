@@ -48,12 +48,14 @@ const PLAN_KEYS: &str =
   service                 Its service, by name
   pcp                     Priority of frames without a priority tag [default: 0] [range: 0-7]
   queue                   Frames that wait for the customer's device [default: 64] [range: 1-4096]
-  kind                    "memory", "capture" or "socket" [default: "memory"]
+  kind                    "memory", "capture", "record", "replay" or "socket" [default: "memory"]
   in                      "memory": the frames that enter, hexadecimal texts [default: []]
-  read, write             "capture": the paths of the captures to read and to write
-  stamp                   "capture": times of written records, "ticks" or "time" [default: "ticks"]
+  read                    "capture", "replay": the path of the capture to read
+  write                   "capture", "record": the path of the capture to write
+  stamp                   "capture", "record": times of records, "ticks" or "time" [default: "ticks"]
   path                    "socket": the path of the socket to which the port connects
   listen                  "socket", in place of path: the path of the socket that the port creates
+  stay                    "socket": true: another peer may follow one that has left [default: false]
 
 [[event]], at most 128: run enables or disables a port to another bridge
   at                      Ticks of the bridge before the event [range: 0-4294967295]

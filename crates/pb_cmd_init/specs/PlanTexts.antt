@@ -181,9 +181,11 @@ ports_text topology service = flat_map (port_text topology service) (range_with_
 abbrev pub needs_text : List ℕ
 needs_text =
     codes "\n"
-    ++ codes "# Ports of other kinds: a capture port reads frames from one file (pcap) and writes to another, and a\n"
-    ++ codes "# socket port exchanges frames over a Unix socket. The file to read must exist, and a peer must listen.\n"
-    ++ codes "# With listen in place of path the port creates the socket. A plan has at most 128 customer ports.\n"
+    ++ codes "# Ports of other kinds: a capture port reads frames from one file (pcap) and writes to another, a replay\n"
+    ++ codes "# port only reads one, a record port only writes one, and a socket port exchanges frames over a Unix\n"
+    ++ codes "# socket. The file to read must exist, and a peer must listen. With listen in place of path the port\n"
+    ++ codes "# creates the socket. With stay = true another peer may follow one that has left. A plan has at most 128\n"
+    ++ codes "# customer ports.\n"
 
 -- a port between capture files, as a comment
 abbrev pub capture_text : ℕ → ℕ → List ℕ
@@ -198,7 +200,7 @@ abbrev pub socket_text : ℕ → ℕ → List ℕ
 socket_text bridge port =
     codes "\n#[[port]]\n#name = \"socket\"\n#bridge = \"B" ++ decimal bridge
     ++ codes "\"\n#port = " ++ decimal port
-    ++ codes "\n#service = \"red\"\n#kind = \"socket\"\n#path = \"port.sock\"\n"
+    ++ codes "\n#service = \"red\"\n#kind = \"socket\"\n#path = \"port.sock\"\n#stay = false\n"
 
 -- ports of other kinds at a bridge, at the local ports after those of the services
 abbrev pub kinds_text : ℕ → ℕ → List ℕ

@@ -65,9 +65,11 @@ const PLACES: &str = "\
 /// The comment on ports of other kinds.
 const KINDS: &str = "\
 \n\
-# Ports of other kinds: a capture port reads frames from one file (pcap) and writes to another, and a\n\
-# socket port exchanges frames over a Unix socket. The file to read must exist, and a peer must listen.\n\
-# With listen in place of path the port creates the socket. A plan has at most 128 customer ports.\n";
+# Ports of other kinds: a capture port reads frames from one file (pcap) and writes to another, a replay\n\
+# port only reads one, a record port only writes one, and a socket port exchanges frames over a Unix\n\
+# socket. The file to read must exist, and a peer must listen. With listen in place of path the port\n\
+# creates the socket. With stay = true another peer may follow one that has left. A plan has at most 128\n\
+# customer ports.\n";
 
 /// An event of a run, and an acceptance.
 const FAILURES: &str = "\
@@ -145,7 +147,7 @@ fn put_socket(out: &mut String, bridge: u8, port: u8) -> Result<(), Memory>
     write!(
         out,
         "\n#[[port]]\n#name = \"socket\"\n#bridge = \"B{bridge}\"\n#port = {port}\n#service = \"red\"\n\
-        #kind = \"socket\"\n#path = \"port.sock\"\n"
+        #kind = \"socket\"\n#path = \"port.sock\"\n#stay = false\n"
     )?;
     Ok(())
 }

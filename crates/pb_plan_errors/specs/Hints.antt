@@ -5,7 +5,7 @@ use Rattle.std.specs.Fmt.{decimal}
 use Rattle.std.specs.declared.alloc.Global.{Global}
 use Rattle.toml.specs.Data.{Members}
 use Rattle.pb_frame.specs.Admission.{same}
-use Rattle.pb_diagnostics.specs.Nearest.{nearest}
+use Rattle.pb_diagnostics.specs.Nearest.{nearest, this_or}
 use Rattle.pb_diagnostics.specs.declared.site.Site.{Site}
 use Rattle.pb_diagnostics.specs.declared.site.Site.TheVariants.{RowKey}
 use Rattle.pb_service.specs.declared.fault.PlanFault.{PlanFault}
@@ -21,6 +21,24 @@ use Rattle.pb_plan_errors.specs.declared.finding.Finding.{Finding}
 -- another name was meant: the nearest one
 abbrev pub meant : List ℕ → List (List ℕ) → Option (List ℕ)
 meant text names = option_map (λ near. codes "did you mean \"" ++ near ++ codes "\"?") (nearest text names)
+
+-- the kinds of customer ports that have a key which the others lack
+abbrev pub kinds_with : List ℕ → Option (List ℕ)
+kinds_with key =
+    if same key (codes "in") then Some (codes "\"memory\"")
+    else if same key (codes "read") then Some (codes "\"capture\" or \"replay\"")
+    else if same key (codes "write") || same key (codes "stamp") then Some (codes "\"capture\" or \"record\"")
+    else if same key (codes "path") then Some (codes "\"socket\" without listen")
+    else if same key (codes "listen") || same key (codes "stay") then Some (codes "\"socket\"") else None
+
+-- a key of a customer port is for these kinds
+abbrev pub is_for_kind : List ℕ → List ℕ → List ℕ
+is_for_kind key kinds = key ++ codes " is for kind " ++ kinds
+
+-- the hint for an unknown key of a table: the kinds of customer ports that have it, or else the nearest key
+abbrev pub unknown_hint : List ℕ → List ℕ → Option (List ℕ)
+unknown_hint word key =
+    this_or (option_map (is_for_kind key) (if same word (codes "port") then kinds_with key else None)) (meant key (keys_of word))
 
 -- a table by its kind and its name has the value, at a line
 abbrev pub has_it : List ℕ → List ℕ → ℕ → List ℕ
@@ -56,10 +74,10 @@ both_hint row key =
 abbrev pub range_hint : Members → Site → Option (List ℕ)
 range_hint document site = option_and_then (λ row. both_hint row (key_of site)) (table_of_key document site)
 
--- the hint for a fault: the nearest key of the table, the nearest name of the plan, the line of the other key, or the
+-- the hint for a fault: the kinds of ports that have the key or the nearest key of the table, the nearest name of the plan, the line of the other key, or the
 -- key for both ends
 abbrev pub IsHint : List ℕ → Members → PlanFault → Finding → Option (String Global) → Type 0
-IsHint file document (Unknown path) f hint = option_map string_bytes hint ≡ meant (key_of f.about) (keys_of (word_of f.about))
+IsHint file document (Unknown path) f hint = option_map string_bytes hint ≡ unknown_hint (word_of f.about) (key_of f.about)
 IsHint file document (Range path) f hint = option_map string_bytes hint ≡ range_hint document f.about
 IsHint file document (NoSuch name) f hint = option_map string_bytes hint ≡ meant name (names_at document (named_by (key_of f.about)))
 IsHint file document (Twice name) f hint = TellsOther file document f.other hint

@@ -3,6 +3,7 @@
 ghost use Rattle.std.specs.Prelude.{◌≡◌, map, option_map, string_bytes, IfOk, IfSome};
 ghost use Rattle.toml.specs.View.{table_view};
 ghost use Rattle.pb_plan_errors.specs.Hints.{meant, has_it, TellsLine, TellsOther, IsHint};
+ghost use Rattle.pb_plan_errors.specs.Hints.{is_for_kind, kinds_with, unknown_hint};
 ghost use Rattle.pb_plan_errors.specs.Hints.{key_for_both, is_for_both, both_hint, range_hint};
 ghost use Rattle.pb_plan_errors.specs.Rules.{keys_of};
 
@@ -46,6 +47,42 @@ fn meant_key(alloc: Global, word: &str, key: &str) -> Result<Option<String>, Mem
 {
     let keys = keys_of(alloc, rules_of(word))?;
     meant(alloc, keys.as_slice(), key)
+}
+
+/// Returns the kinds of customer ports that have a key which the others lack.
+fn kinds_with(key: &str) -> Option<&'static str>
+    ensures { option_map (λ kinds. kinds.now) result ≡ kinds_with key.now }
+{
+    if key == "in" {
+        Some("\"memory\"")
+    } else if key == "read" {
+        Some("\"capture\" or \"replay\"")
+    } else if key == "write" || key == "stamp" {
+        Some("\"capture\" or \"record\"")
+    } else if key == "path" {
+        Some("\"socket\" without listen")
+    } else if key == "listen" || key == "stay" {
+        Some("\"socket\"")
+    } else {
+        None
+    }
+}
+
+/// Returns the hint that a key of a customer port is for these kinds.
+fn is_for_kind(alloc: Global, key: &str, kinds: &str) -> Result<String, Memory>
+    ensures { IfOk result (λ h. string_bytes h ≡ is_for_kind key.now kinds.now) }
+{
+    Ok(format!(in alloc; "{key} is for kind {kinds}")?)
+}
+
+/// Returns the hint for an unknown key of a table: the kinds of customer ports that have it, or else the nearest key.
+fn unknown_hint(alloc: Global, word: &str, key: &str) -> Result<Option<String>, Memory>
+    ensures { IfOk result (λ hint. option_map string_bytes hint ≡ unknown_hint word.now key.now) }
+{
+    match kinds_with(key) {
+        Some(kinds) if word == "port" => Ok(Some(is_for_kind(alloc, key, kinds)?)),
+        _ => meant_key(alloc, word, key),
+    }
 }
 
 /// Returns the hint that a table has the value, at a line.
@@ -146,8 +183,8 @@ fn range_hint(alloc: Global, document: &Table, site: Site<'_>) -> Result<Option<
     }
 }
 
-/// Returns the hint of an error, if there is one: the nearest name or key, the line of the other use, or the key for
-/// both ends of a link.
+/// Returns the hint of an error, if there is one: the nearest name or key, the kinds of ports that have the key, the
+/// line of the other use, or the key for both ends of a link.
 ///
 /// # Errors
 ///
@@ -163,7 +200,7 @@ pub(crate) fn hint_of(
 {
     let (word, key) = word_and_key(finding.about);
     match fault {
-        PlanFault::Unknown(_) => meant_key(alloc, word, key),
+        PlanFault::Unknown(_) => unknown_hint(alloc, word, key),
         PlanFault::NoSuch(name) => {
             let names = names_of(alloc, document, named_by(key))?;
             meant(alloc, names.as_slice(), name.as_str())

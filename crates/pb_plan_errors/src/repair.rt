@@ -1,7 +1,7 @@
 //! Repairs what a fault is about, so that the next fault of a document can be found.
 
 use crate::finding::{finding_of, most_of};
-use crate::row::{integer_at, items_at, text_at};
+use crate::row::{has_key, integer_at, items_at, text_at};
 use crate::spare::{spare_address, spare_name, spare_port, spare_vid};
 use pb_diagnostics::{Site, row_at};
 use pb_frame::Memory;
@@ -88,7 +88,31 @@ fn free_port(
     Ok(Some(Value::Integer(spare_port(alloc, document, name)?)))
 }
 
-/// Returns a value that is right for a key without a default, or `None` for a key with one.
+/// Returns the kind of a customer port by the other keys of its table.
+fn fitting_kind(row: &Table) -> &'static str {
+    let (reads, writes) = (has_key(row, "read"), has_key(row, "write"));
+    if reads && writes {
+        "capture"
+    } else if writes {
+        "record"
+    } else if reads {
+        "replay"
+    } else if has_key(row, "path") || has_key(row, "listen") {
+        "socket"
+    } else {
+        "memory"
+    }
+}
+
+/// Returns the kind of a customer port at an index, by the other keys of its table.
+fn spare_kind(alloc: Global, document: &Table, index: usize) -> Result<Option<Value>, Memory> {
+    match row_at(document, "port", index) {
+        Some(row) => Ok(Some(Value::string(alloc, fitting_kind(row))?)),
+        None => Ok(None),
+    }
+}
+
+/// Returns a value that is right for a key without a default or for the kind of a port, or `None` for another key.
 fn right_value(
     alloc: Global,
     document: &mut Table,
@@ -107,6 +131,7 @@ fn right_value(
         "port" => free_port(alloc, document, (word, index, "bridge")),
         "at" => Ok(Some(Value::Integer(0))),
         "up" => Ok(Some(Value::Boolean(true))),
+        "kind" => spare_kind(alloc, document, index),
         "read" | "write" | "path" | "listen" => Ok(Some(Value::string(alloc, "x")?)),
         _ => Ok(None),
     }
@@ -140,7 +165,7 @@ fn unlist(row: &mut Table, key: &str, text: &str) {
     }
 }
 
-/// Repairs a key of a table: it gets a right value if it has no default, and is removed if it has one. A name that
+/// Repairs a key of a table: it gets a right value if it has no default or is a kind, and is removed otherwise. A name that
 /// nothing has is removed from a list.
 fn repair_key(
     alloc: Global,

@@ -47,6 +47,8 @@ const PRIORITY: &str = "a multiple of 16 in 0..240";
 
 const STATE: &str = "\"discarding\", \"learning\" or \"forwarding\"";
 
+const KIND: &str = "\"memory\", \"capture\", \"record\", \"replay\" or \"socket\"";
+
 const RISING: &str = "an array of rising numbers";
 
 const FAILURE: &str = "a name, and the only one of link, bridge and links";
@@ -99,20 +101,21 @@ static SERVICE: [Rule; 2] = [
     rule!("vid", INTEGER, "in 1..4094"),
 ];
 
-static PORTS: [Rule; 13] = [
+static PORTS: [Rule; 14] = [
     rule!("name", STRING, NAME),
     rule!("bridge", STRING, NAME),
     rule!("port", INTEGER, PORT),
     rule!("service", STRING, NAME),
     rule!("pcp", INTEGER, "in 0..7"),
     rule!("queue", INTEGER, QUEUE),
-    rule!("kind", STRING, "\"memory\", \"capture\" or \"socket\""),
+    rule!("kind", STRING, KIND),
     rule!("in", STRINGS, "an array of pairs of hexadecimal digits"),
     rule!("read", STRING, STRING),
     rule!("write", STRING, STRING),
     rule!("stamp", STRING, "\"ticks\" or \"time\""),
     rule!("path", STRING, STRING),
     rule!("listen", STRING, STRING),
+    rule!("stay", FLAG, FLAG),
 ];
 
 static EVENT: [Rule; 4] = [

@@ -151,6 +151,32 @@ hint: bridge \"B1\" has it at line 6
 ",
     ),
     (
+        "port = 2",
+        "port = 2\nkind = \"record\"\nwrite = \"out\"\nread = \"in\"",
+        "p:29:1: port \"C1\": unknown key read
+    read = \"in\"
+    ^^^^
+hint: read is for kind \"capture\" or \"replay\"
+",
+    ),
+    (
+        "port = 2",
+        "port = 2\nkind = \"socket\"\nlisten = \"s\"\npath = \"s\"",
+        "p:29:1: port \"C1\": unknown key path
+    path = \"s\"
+    ^^^^
+hint: path is for kind \"socket\" without listen
+",
+    ),
+    (
+        "port = 2",
+        "port = 2\nkind = \"recrod\"",
+        "p:27:8: port \"C1\": kind \"recrod\" is not \"memory\", \"capture\", \"record\", \"replay\" or \"socket\"
+    kind = \"recrod\"
+           ^^^^^^^^
+",
+    ),
+    (
         "[network]",
         "oops = 1\n[network]",
         "p:1:1: unknown key oops
@@ -338,6 +364,19 @@ fn a_fault_of_an_acceptance_has_a_place(rt: HostRuntime) -> Result<(), Fail> {
 fn all_mistakes_are_reported(rt: HostRuntime) -> Result<(), Fail> {
     let text = all_text(rt.alloc(), NINE.as_bytes())?;
     assert!(rt; text.as_str() == NINE_ERRORS, "{text}");
+    Ok(())
+}
+
+#[test]
+fn a_misspelt_kind_is_one_error(rt: HostRuntime) -> Result<(), Fail> {
+    let alloc = rt.alloc();
+    let file = changed(
+        alloc,
+        "port = 2",
+        "port = 2\nkind = \"recrod\"\nwrite = \"out\"",
+    )?;
+    let errors = plan_errors(alloc, file.as_bytes())?;
+    assert_eq!(rt; errors.len(), 1);
     Ok(())
 }
 

@@ -1,5 +1,5 @@
 -- The open files and sockets of the ports of a plan, and the order in which they are opened.
-use Rattle.std.specs.Prelude.{◌≡◌, ℕ, true, false, Option, Some, None, List, [], ◌∷◌, ◌++◌, map, IfSome}
+use Rattle.std.specs.Prelude.{◌≡◌, ℕ, Bool, true, false, Option, Some, None, List, [], ◌∷◌, ◌++◌, map, IfSome}
 use Rattle.std.specs.List.{flat_map}
 use Rattle.pb_run_ports.specs.Deeds.{HasBegun}
 use Rattle.pb_run_ports.specs.Uses.{are_apart}
@@ -9,43 +9,52 @@ use Rattle.pb_run_ports.specs.declared.open_fault.OpenFault.{OpenFault}
 use Rattle.pb_run_ports.specs.declared.open_fault.OpenFault.TheVariants.{Unopened, Unemptied, Shared}
 use Rattle.pb_run_ports.specs.declared.open_fault.OpenFault.TheVariants.{Memory as no_memory}
 use Rattle.pb_run_ports.specs.declared.opened.Opened.{Opened}
-use Rattle.pb_run_ports.specs.declared.opened.Opened.TheVariants.{Memory as in_memory, Capture as files}
-use Rattle.pb_run_ports.specs.declared.opened.Opened.TheVariants.{Socket as stream}
+use Rattle.pb_run_ports.specs.declared.opened.Opened.TheVariants.{Memory as in_memory, Capture as files, Record as output_alone}
+use Rattle.pb_run_ports.specs.declared.opened.Opened.TheVariants.{Replay as input_alone, Socket as socket}
 use Rattle.pb_service.specs.declared.port_spec.PortSpec.{PortSpec}
-use Rattle.pb_service.specs.declared.port_spec.PortSpec.TheVariants.{Memory, Capture, Socket}
+use Rattle.pb_service.specs.declared.port_spec.Stamp.{Stamp}
+use Rattle.pb_service.specs.declared.port_spec.PortSpec.TheVariants.{Memory, Capture, Record, Replay, Socket}
 
--- the frames that enter at a port, if the plan file lists them
-abbrev pub script_in : PortSpec → Option (List (List ℕ))
-script_in (Memory frames) = Some frames
-script_in (Capture read write stamp) = None
-script_in (Socket path listens) = None
+-- the part of a port that is the same before and after opening: the frames that it lists, the paths that it reads and
+-- writes, the time stamp of the records that it writes, and whether its socket stays, each if it has such a thing
+pub record Shown : Type 0 where
+  pub frames : Option (List (List ℕ))
+  pub read : Option (List ℕ)
+  pub write : Option (List ℕ)
+  pub stamp : Option Stamp
+  pub stays : Option Bool
 
--- the part of a port that is the same before and after opening: the frames that it lists, and the path that it writes
-abbrev pub Shown : Type 0
-Shown = Option (List (List ℕ)) × Option (List ℕ)
-
--- the path that a port writes, if it has one
-abbrev pub write_in : PortSpec → Option (List ℕ)
-write_in (Memory frames) = None
-write_in (Capture read write stamp) = Some write
-write_in (Socket path listens) = None
+abbrev pub nothing : Shown
+nothing = record { frames = None; read = None; write = None; stamp = None; stays = None }
 
 -- this part of a port in the plan file
 abbrev pub asked : PortSpec → Shown
-asked spec = (script_in spec, write_in spec)
+asked (Memory frames) = record nothing { frames = Some frames }
+asked (Capture read write stamp) = record nothing { read = Some read; write = Some write; stamp = Some stamp }
+asked (Record write stamp) = record nothing { write = Some write; stamp = Some stamp }
+asked (Replay read) = record nothing { read = Some read }
+asked (Socket path listens stays) = record nothing { stays = Some stays }
 
 -- this part of an opened port
 abbrev pub shown : {I O S : Type 0} → Opened I O S → Shown
-shown (in_memory frames) = (Some frames, None)
-shown (files input output read write stamp) = (None, Some write)
-shown (stream socket) = (None, None)
+shown (in_memory frames) = record nothing { frames = Some frames }
+shown (files input output read write stamp) = record nothing { read = Some read; write = Some write; stamp = Some stamp }
+shown (output_alone output write stamp) = record nothing { write = Some write; stamp = Some stamp }
+shown (input_alone input read) = record nothing { read = Some read }
+shown (socket stream stays) = record nothing { stays = Some stays }
+
+-- the frames that enter at a port, if the plan file lists them
+abbrev pub script_in : PortSpec → Option (List (List ℕ))
+script_in spec = (asked spec).frames
 
 -- the first operations on a port: its file to read is opened, or its socket is made or connected to
 abbrev pub entering : PortSpec → List Deed
 entering (Memory frames) = []
 entering (Capture read write stamp) = Read read ∷ []
-entering (Socket path true) = Listen path ∷ []
-entering (Socket path false) = Connect path ∷ []
+entering (Record write stamp) = []
+entering (Replay read) = Read read ∷ []
+entering (Socket path true stays) = Listen path ∷ []
+entering (Socket path false stays) = Connect path ∷ []
 
 -- a path, if there is one, is opened for writing
 abbrev pub opening : Option (List ℕ) → List Deed
@@ -59,11 +68,11 @@ emptying (Some path) = Empty path ∷ []
 
 -- the files to write are opened, in the order of the plan
 abbrev pub written : List Shown → List Deed
-written ports = flat_map (λ port. opening port.1) ports
+written ports = flat_map (λ port. opening port.write) ports
 
 -- the files to write are emptied, in the order of the plan
 abbrev pub emptied : List Shown → List Deed
-emptied ports = flat_map (λ port. emptying port.1) ports
+emptied ports = flat_map (λ port. emptying port.write) ports
 
 -- all openings: files to read and sockets first, then files to write
 abbrev pub openings_of : List PortSpec → List Deed

@@ -6,7 +6,7 @@ use Rattle.pb_run_ports.specs.declared.open_fault.FileUser.{FileUser}
 use Rattle.pb_run_ports.specs.declared.open_fault.FileUser.TheVariants.{Plan, Reader, Writer}
 use Rattle.pb_run_ports.specs.declared.uses.FileUse.{FileUse}
 use Rattle.pb_service.specs.declared.port_spec.PortSpec.{PortSpec}
-use Rattle.pb_service.specs.declared.port_spec.PortSpec.TheVariants.{Memory, Capture, Socket}
+use Rattle.pb_service.specs.declared.port_spec.PortSpec.TheVariants.{Memory, Capture, Record, Replay, Socket}
 
 -- the user of a file is a port that writes it
 abbrev pub writes : FileUser → Bool
@@ -32,7 +32,9 @@ use_of user (Some file) = record { file = file; user = user } ∷ []
 abbrev pub uses_at : (List ℕ → Option (List ℕ)) → ℕ → PortSpec → List FileUse
 uses_at name place (Memory frames) = []
 uses_at name place (Capture read write stamp) = use_of (Reader place) (name read) ++ use_of (Writer place) (name write)
-uses_at name place (Socket path listens) = []
+uses_at name place (Record write stamp) = use_of (Writer place) (name write)
+uses_at name place (Replay read) = use_of (Reader place) (name read)
+uses_at name place (Socket path listens stays) = []
 
 -- the uses that ports make of files, from a place of the plan on
 abbrev pub uses_in : (List ℕ → Option (List ℕ)) → ℕ → List PortSpec → List FileUse

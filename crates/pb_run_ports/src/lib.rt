@@ -6,6 +6,7 @@
 #![tactic(auto)]
 
 mod deed;
+mod one_port;
 mod open_fault;
 mod opened;
 mod openings;

@@ -5,11 +5,12 @@ ghost use Rattle.std.specs.Prelude.{◌≡◌, true, [], map, IfSome, IfOk, IfEr
 ghost use Rattle.std.specs.List.{flat_map};
 ghost use Rattle.pb_run_ports.specs.Deeds.{Adds, HasBegun};
 ghost use Rattle.pb_run_ports.specs.OpenFaults.{IsUnopened, IsUnemptied};
-ghost use Rattle.pb_run_ports.specs.Opened.{asked, deeds_of, emptied, emptying, entering, opening, shown, written};
+ghost use Rattle.pb_run_ports.specs.Opened.{asked, deeds_of, emptied, entering, shown, written};
 ghost use Rattle.pb_run_ports.specs.Opened.{HasStopped, StopsAt};
 ghost use Rattle.pb_run_ports.specs.Uses.{are_apart};
 
-use crate::open_fault::{OpenFault, SharedFile, Verb, unemptied, unopened};
+use crate::one_port::{empty_out, forget_out, open_in, open_out};
+use crate::open_fault::{OpenFault, SharedFile};
 use crate::openings::Openings;
 use crate::uses::{Clash, find_clash};
 use bytes::Bytes;
@@ -35,72 +36,29 @@ pub enum Opened<I, O, S> {
         /// The time stamp of the records that it writes.
         stamp: Stamp,
     },
+    /// The file that the port writes. It reads none.
+    Record {
+        /// The file that it writes.
+        output: O,
+        /// The path of the file that it writes.
+        write: Text,
+        /// The time stamp of the records that it writes.
+        stamp: Stamp,
+    },
+    /// The file that the port reads. It writes none.
+    Replay {
+        /// The file that it reads.
+        input: I,
+        /// The path of the file that it reads.
+        read: Text,
+    },
     /// The stream of its socket.
-    Socket(S),
-}
-
-/// Makes the socket of a port, or connects the port to its socket.
-///
-/// # Errors
-///
-/// `Unopened`, or `Memory` if the system is out of memory.
-fn open_socket<O: Openings>(
-    opener: &mut O,
-    place: usize,
-    path: Text,
-    listens: bool,
-) -> Result<O::Stream, OpenFault>
-    ensures ok { OnOk result (Adds (O.done opener.old) (O.done opener.new) (entering (PortSpec.Socket path listens))) }
-    ensures err { IfErr result (λ e. IsUnopened e × (O.done opener.new ≡ O.done opener.old)) }
-{
-    if listens {
-        return match opener.listen(path.as_str()) {
-            Ok(stream) => Ok(stream),
-            Err(error) => Err(unopened(place, Verb::Listen, path, error)),
-        };
-    }
-    match opener.connect(path.as_str()) {
-        Ok(stream) => Ok(stream),
-        Err(error) => Err(unopened(place, Verb::Connect, path, error)),
-    }
-}
-
-/// Opens the file that a port reads, or makes its socket or connects to it.
-///
-/// # Errors
-///
-/// `Unopened`, or `Memory` if the system is out of memory.
-fn open_in<O: Openings>(
-    opener: &mut O,
-    place: usize,
-    spec: PortSpec,
-) -> Result<Opened<O::Input, (), O::Stream>, OpenFault>
-    ensures ok { IfOk result (λ port. Adds (O.done opener.old) (O.done opener.new) (entering spec)
-        × (shown port ≡ asked spec)) }
-    ensures err { IfErr result (λ e. IsUnopened e × (O.done opener.new ≡ O.done opener.old)) }
-{
-    match spec {
-        PortSpec::Memory(frames) => Ok(Opened::Memory(frames)),
-        PortSpec::Capture { read, write, stamp } => match opener.open_read(read.as_str()) {
-            Ok(input) => {
-                let output = ();
-                Ok(Opened::Capture {
-                    input,
-                    output,
-                    read,
-                    write,
-                    stamp,
-                })
-            }
-            Err(error) => Err(unopened(place, Verb::Read, read, error)),
-        },
-        PortSpec::Socket { path, listens } => {
-            match open_socket(opener, place, path, listens) {
-                Ok(stream) => Ok(Opened::Socket(stream)),
-                Err(fault) => Err(fault),
-            }
-        }
-    }
+    Socket {
+        /// The stream.
+        stream: S,
+        /// Whether the port stays when its peer leaves.
+        stays: bool,
+    },
 }
 
 /// Opens the files that the ports read, and makes their sockets or connects to them, in the order of the plan.
@@ -127,42 +85,6 @@ fn open_ins<O: Openings>(
     Ok(ports)
 }
 
-/// Opens the file that a port writes.
-///
-/// # Errors
-///
-/// `Unopened`, or `Memory` if the system is out of memory.
-fn open_out<O: Openings>(
-    opener: &mut O,
-    place: usize,
-    port: Opened<O::Input, (), O::Stream>,
-) -> Result<Opened<O::Input, O::Output, O::Stream>, OpenFault>
-    ensures ok { IfOk result (λ whole. Adds (O.done opener.old) (O.done opener.new) (opening (shown port).1)
-        × (shown whole ≡ shown port)) }
-    ensures err { IfErr result (λ e. IsUnopened e × (O.done opener.new ≡ O.done opener.old)) }
-{
-    match port {
-        Opened::Memory(frames) => Ok(Opened::Memory(frames)),
-        Opened::Capture {
-            input,
-            read,
-            write,
-            stamp,
-            ..
-        } => match opener.open_write(write.as_str()) {
-            Ok(output) => Ok(Opened::Capture {
-                input,
-                output,
-                read,
-                write,
-                stamp,
-            }),
-            Err(error) => Err(unopened(place, Verb::Write, write, error)),
-        },
-        Opened::Socket(stream) => Ok(Opened::Socket(stream)),
-    }
-}
-
 /// Opens the files that the ports write, in the order of the plan. `whole` holds the ports that were opened, also after
 /// a fault.
 ///
@@ -186,25 +108,6 @@ fn open_outs<O: Openings>(
         whole.push(port)?;
     }
     Ok(())
-}
-
-/// Closes the output of a port, and removes its file if the opening made it.
-fn forget_out<O: Openings>(opener: &mut O, port: Opened<O::Input, O::Output, O::Stream>)
-    ensures { O.done opener.new ≡ O.done opener.old }
-{
-    match port {
-        Opened::Memory(_frames) => {}
-        Opened::Capture {
-            input,
-            output,
-            write,
-            ..
-        } => {
-            drop(input);
-            opener.forget(output, write.as_str());
-        }
-        Opened::Socket(_stream) => {}
-    }
 }
 
 /// Closes the outputs of ports, and removes the files that the openings made.
@@ -238,29 +141,6 @@ fn open_all_outs<O: Openings>(
             forget_outs(opener, whole);
             Err(fault)
         }
-    }
-}
-
-/// Empties the file that a port writes.
-///
-/// # Errors
-///
-/// `Unemptied` if that fails.
-fn empty_out<O: Openings>(
-    alloc: Global,
-    opener: &mut O,
-    place: usize,
-    port: &Opened<O::Input, O::Output, O::Stream>,
-) -> Result<(), OpenFault>
-    ensures ok { OnOk result (Adds (O.done opener.old) (O.done opener.new) (emptying (shown port.now).1)) }
-    ensures err { IfErr result (λ e. IsUnemptied e × (O.done opener.new ≡ O.done opener.old)) }
-{
-    match port {
-        Opened::Capture { output, write, .. } => match opener.empty(output, write.as_str()) {
-            Ok(()) => Ok(()),
-            Err(error) => Err(unemptied(alloc, place, write, error)),
-        },
-        _ => Ok(()),
     }
 }
 
@@ -304,10 +184,10 @@ fn open_apart<O: Openings>(
     Ok(ports)
 }
 
-/// Returns the fault of a file with two uses, one of which is a capture port that writes it.
+/// Returns the fault of a file with two uses, one of which is a port that writes it.
 fn shared(alloc: Global, specs: &[PortSpec], clash: Clash) -> Result<SharedFile, Memory> {
     let path = match specs.get(clash.place) {
-        Some(PortSpec::Capture { write, .. }) => write.clone()?,
+        Some(PortSpec::Capture { write, .. } | PortSpec::Record { write, .. }) => write.clone()?,
         _ => Text::from_string(String::new(alloc)),
     };
     Ok(SharedFile {

@@ -48,21 +48,21 @@ pub trait Openings {
         ensures ok { OnOk result (Adds (done self.old) (done self.new) (reads path.now ∷ [])) }
         ensures err { OnErr result (done self.new ≡ done self.old) };
 
-    /// Connects to a socket.
+    /// Connects to a socket. If the port stays, its stream has the next peer after this one has left.
     ///
     /// # Errors
     ///
     /// The error of the system. Nothing was done then.
-    fn connect(&mut self, path: &str) -> io::Result<Self::Stream>
+    fn connect(&mut self, path: &str, stays: bool) -> io::Result<Self::Stream>
         ensures ok { OnOk result (Adds (done self.old) (done self.new) (connects path.now ∷ [])) }
         ensures err { OnErr result (done self.new ≡ done self.old) };
 
-    /// Makes a socket at which one peer may connect.
+    /// Makes a socket at which one peer may connect. If the port stays, the next one may after this one has left.
     ///
     /// # Errors
     ///
     /// The error of the system. Nothing was done then.
-    fn listen(&mut self, path: &str) -> io::Result<Self::Stream>
+    fn listen(&mut self, path: &str, stays: bool) -> io::Result<Self::Stream>
         ensures ok { OnOk result (Adds (done self.old) (done self.new) (listens path.now ∷ [])) }
         ensures err { OnErr result (done self.new ≡ done self.old) };
 

@@ -120,11 +120,21 @@ fn put_uses<O: Openings>(
     ensures { OnOk result (IfSome (O.named opener.now) (λ name. uses.new.items ≡ uses.old.items
         ++ uses_at name place spec.now)) }
 {
-    if let PortSpec::Capture { read, write, .. } = spec {
-        put_use(alloc, opener, uses, FileUser::Reader(place), read.as_str())?;
-        put_use(alloc, opener, uses, FileUser::Writer(place), write.as_str())?;
+    match spec {
+        PortSpec::Capture { read, write, .. } => {
+            put_use(alloc, opener, uses, FileUser::Reader(place), read.as_str())?;
+            put_use(alloc, opener, uses, FileUser::Writer(place), write.as_str())
+        }
+        PortSpec::Record { write, .. } => {
+            let user = FileUser::Writer(place);
+            put_use(alloc, opener, uses, user, write.as_str())
+        }
+        PortSpec::Replay { read } => {
+            let user = FileUser::Reader(place);
+            put_use(alloc, opener, uses, user, read.as_str())
+        }
+        PortSpec::Memory(_) | PortSpec::Socket { .. } => Ok(()),
     }
-    Ok(())
 }
 
 /// Returns the first conflict of the ports, if there is one: a file that a port would write and that has another use.

@@ -11,7 +11,7 @@ use Rattle.pb_service.specs.Values.{IsAddress, all_items, is_text, is_hex}
 use Rattle.pb_service.specs.Keys.{KeyRule, with_default, without_default, IsTaken, IsAccepted}
 use Rattle.pb_service.specs.Formats.{bridge_keys, own_keys, port_keys}
 use Rattle.pb_service.specs.Told.{has_key, text_told, items_told}
-use Rattle.pb_service.specs.Tables.{text_at, items_at}
+use Rattle.pb_service.specs.Tables.{has_kind, text_at, items_at}
 
 taken_address : (name : List ℕ) (value : Option Data) → IsTaken (without_default name Address) value
     → IsAddress (text_told value)
@@ -32,16 +32,17 @@ taken_frames name None h = refl
 taken_frames name (Some d) h = frames_listed (as_array d) h
 
 memory_keys : (kind : List ℕ) (listens : Bool) → same kind (codes "capture") ≡ false
+    → same kind (codes "record") ≡ false → same kind (codes "replay") ≡ false
     → same kind (codes "socket") ≡ false → own_keys kind listens ≡ with_default (codes "in") Frames ∷ []
-memory_keys kind listens a b = rw (a, b)
+memory_keys kind listens a b c d = rw (a, b, c, d)
 
 -- the frames of a port in memory are hexadecimal (used by `port_spec_of`)
 pub accepted_frames : (row : Members)
     → IsAccepted (port_keys (text_at row (codes "kind")) (has_key row (codes "listen"))) row
-    → same (text_at row (codes "kind")) (codes "capture") ≡ false
-    → same (text_at row (codes "kind")) (codes "socket") ≡ false
+    → has_kind row (codes "capture") ≡ false → has_kind row (codes "record") ≡ false
+    → has_kind row (codes "replay") ≡ false → has_kind row (codes "socket") ≡ false
     → all_items (is_text is_hex) (items_at row (codes "in")) ≡ true
-accepted_frames row h a b =
+accepted_frames row h a b c d =
     let own = subst (λ (keys : List KeyRule). AllByRecursion (λ k. IsTaken k (get_member k.name row)) keys)
-    (memory_keys (text_at row (codes "kind")) (has_key row (codes "listen")) a b) h.taken.1.1.1.1.1.1.1 in
+    (memory_keys (text_at row (codes "kind")) (has_key row (codes "listen")) a b c d) h.taken.1.1.1.1.1.1.1 in
     taken_frames (codes "in") (get_member (codes "in") row) own.0

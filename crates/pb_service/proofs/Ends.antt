@@ -204,7 +204,7 @@ port_passed document row bridges services i c links used r e eb at told el befor
     passed_on (Refuses document) r e p
     (port_refused document row i services c used e at (rw (← eb) told) (rw (← el, ← eb) before) h)
 
--- a capture with the time of day and without a clock refuses the document
+-- records with the time of day and without a clock refuses the document
 stamp_refused : (document row : Members) (i : ℕ) (e : PlanFault) → slice_get (rows_of document Port) i ≡ Some row
     → RefusesStamp (network_limits document) i row e → Refuses document e
 stamp_refused document row i e at (inl m) = rw m (no_memory document)

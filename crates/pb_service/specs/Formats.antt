@@ -72,7 +72,9 @@ service_keys =
 abbrev pub own_keys : List ℕ → Bool → List KeyRule
 own_keys kind listens =
     if same kind (codes "capture") then without_default (codes "read") Path ∷ without_default (codes "write") Path ∷ with_default (codes "stamp") Stamp ∷ []
-    else if same kind (codes "socket") then without_default (if listens then codes "listen" else codes "path") Path ∷ []
+    else if same kind (codes "record") then without_default (codes "write") Path ∷ with_default (codes "stamp") Stamp ∷ []
+    else if same kind (codes "replay") then without_default (codes "read") Path ∷ []
+    else if same kind (codes "socket") then without_default (if listens then codes "listen" else codes "path") Path ∷ with_default (codes "stay") Flag ∷ []
     else with_default (codes "in") Frames ∷ []
 
 abbrev pub port_keys : List ℕ → Bool → List KeyRule

@@ -3,12 +3,14 @@ use Rattle.std.specs.Prelude.{Bool, true, false, not, List, Some, None}
 use Rattle.std.specs.declared.option.Option.{Option}
 use Rattle.std.specs.List.{list_any}
 use Rattle.pb_service.specs.declared.port_spec.PortSpec.{PortSpec}
-use Rattle.pb_service.specs.declared.port_spec.PortSpec.TheVariants.{Memory, Capture, Socket}
+use Rattle.pb_service.specs.declared.port_spec.PortSpec.TheVariants.{Memory, Capture, Record, Replay, Socket}
 
 abbrev pub is_socket : PortSpec → Bool
 is_socket (Memory frames) = false
 is_socket (Capture read write stamp) = false
-is_socket (Socket path listens) = true
+is_socket (Record write stamp) = false
+is_socket (Replay read) = false
+is_socket (Socket path listens stays) = true
 
 -- the key says it, or leaves it open and no port is a socket
 abbrev pub is_lossless : Option Bool → List PortSpec → Bool

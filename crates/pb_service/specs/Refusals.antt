@@ -172,7 +172,7 @@ abbrev pub CustomerLacks : List (List ℕ) → List (List ℕ) → Members → P
 CustomerLacks bridges services row fault =
     (fault ≡ Memory) ⊎ (LacksName bridges row (codes "bridge") fault ⊎ LacksName services row (codes "service") fault)
 
--- the records of a capture are to have the time of day and no clock ticks by time, or an allocation failed
+-- the records of a written capture are to have the time of day and no clock ticks by time, or an allocation failed
 abbrev pub RefusesStamp : Limits → ℕ → Members → PlanFault → Type 0
 RefusesStamp limits index row fault =
     (fault ≡ Memory) ⊎ ((fault ≡ Range (path_at (Row Port index) (codes "stamp"))) × (lacks_time limits (text_at row (codes "stamp")) ≡ true))

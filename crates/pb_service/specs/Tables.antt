@@ -15,7 +15,8 @@ use Rattle.pb_lan.specs.declared.limits.Limits.{Limits}
 use Rattle.pb_service.specs.declared.link.EndKeys.{EndKeys}
 use Rattle.pb_service.specs.declared.network.Network.{Network}
 use Rattle.pb_service.specs.declared.port_spec.PortSpec.{PortSpec}
-use Rattle.pb_service.specs.declared.port_spec.PortSpec.TheVariants.{Memory, Capture, Socket}
+use Rattle.pb_service.specs.declared.port_spec.Stamp.{Stamp}
+use Rattle.pb_service.specs.declared.port_spec.PortSpec.TheVariants.{Memory, Capture, Record, Replay, Socket}
 use Rattle.pb_service.specs.Values.{text_in, all_items}
 use Rattle.pb_service.specs.Clocks.{has_two_clocks, holds_forever, is_vainly_prompt, lacks_time}
 use Rattle.pb_service.specs.Keys.{KeyRule, IsAccepted}
@@ -162,16 +163,29 @@ AreFrames no_items [] = Unit {0}
 AreFrames (item d ds) (frame ∷ frames) = IsHex (text_in d) frame × AreFrames ds frames
 AreFrames ds frames = ⊥
 
--- the kind of customer port that a table describes: records have the time of day only if a clock ticks by time, and a
--- port with the key `listen` makes its socket
+-- the table is that of a customer port of this kind
+abbrev pub has_kind : Members → List ℕ → Bool
+has_kind row kind = same (text_at row (codes "kind")) kind
+
+-- the stamp of records that a table gives: the time of day only if a clock ticks by time
+abbrev pub IsStampOf : Limits → Members → Stamp → Type 0
+IsStampOf limits row stamp =
+    (stamp ≡ stamp_of (text_at row (codes "stamp"))) × (lacks_time limits (text_at row (codes "stamp")) ≡ false)
+
+-- the kind of customer port that a table describes: a port with the key `listen` makes its socket
 abbrev pub IsPortSpecOf : Limits → Members → PortSpec → Type 0
-IsPortSpecOf limits row (Memory frames) = (same (text_at row (codes "kind")) (codes "capture") ≡ false) × (same (text_at row (codes "kind")) (codes "socket") ≡ false) × AreFrames (items_at row (codes "in")) frames
+IsPortSpecOf limits row (Memory frames) =
+    (has_kind row (codes "capture") ≡ false) × (has_kind row (codes "record") ≡ false) × (has_kind row (codes "replay") ≡ false)
+    × (has_kind row (codes "socket") ≡ false) × AreFrames (items_at row (codes "in")) frames
 IsPortSpecOf limits row (Capture read write stamp) =
-    (same (text_at row (codes "kind")) (codes "capture") ≡ true) × (read ≡ text_at row (codes "read")) × (write ≡ text_at row (codes "write"))
-    × (stamp ≡ stamp_of (text_at row (codes "stamp"))) × (lacks_time limits (text_at row (codes "stamp")) ≡ false)
-IsPortSpecOf limits row (Socket path listens) =
-    (same (text_at row (codes "kind")) (codes "socket") ≡ true) × (listens ≡ has_key row (codes "listen"))
-    × (path ≡ text_at row (if listens then codes "listen" else codes "path"))
+    (has_kind row (codes "capture") ≡ true) × (read ≡ text_at row (codes "read")) × (write ≡ text_at row (codes "write"))
+    × IsStampOf limits row stamp
+IsPortSpecOf limits row (Record write stamp) =
+    (has_kind row (codes "record") ≡ true) × (write ≡ text_at row (codes "write")) × IsStampOf limits row stamp
+IsPortSpecOf limits row (Replay read) = (has_kind row (codes "replay") ≡ true) × (read ≡ text_at row (codes "read"))
+IsPortSpecOf limits row (Socket path listens stays) =
+    (has_kind row (codes "socket") ≡ true) × (listens ≡ has_key row (codes "listen"))
+    × (path ≡ text_at row (if listens then codes "listen" else codes "path")) × (stays ≡ flag_told (get_member (codes "stay") row))
 
 -- a table that keeps the rules of its keys, and what it describes
 pub record IsRead {X : Type 0} (Tells : Members → X → Type 0) (keys : List KeyRule) (row : Members) (x : X) : Type 0 where

@@ -72,6 +72,13 @@ is_of_kind Flag d = is_some (as_bool d)
 is_of_kind FlagOrAuto d = is_some (as_bool d) || is_some (as_str d)
 is_of_kind _ d = is_some (as_str d)
 
+-- the kind of a customer port over capture files
+abbrev pub is_file_kind : List ℕ → Bool
+is_file_kind t = same t (codes "capture") || (same t (codes "record") || same t (codes "replay"))
+
+abbrev pub is_port_kind : List ℕ → Bool
+is_port_kind t = same t (codes "memory") || (is_file_kind t || same t (codes "socket"))
+
 -- the rule allows the value
 abbrev pub IsAllowed : Rule → Data → Type 0
 IsAllowed (Number low high) d = is_natural (λ n. nat_le low n && nat_le n high) d ≡ true
@@ -82,7 +89,7 @@ IsAllowed Address d = IsAddress (text_in d)
 IsAllowed Spanning d = is_text (λ t. same t (codes "fixed") || same t (codes "rstp")) d ≡ true
 IsAllowed Queues d = is_text (λ t. same t (codes "port") || same t (codes "class")) d ≡ true
 IsAllowed State d = is_text (λ t. same t (codes "discarding") || (same t (codes "learning") || same t (codes "forwarding"))) d ≡ true
-IsAllowed PortKind d = is_text (λ t. same t (codes "memory") || (same t (codes "capture") || same t (codes "socket"))) d ≡ true
+IsAllowed PortKind d = is_text is_port_kind d ≡ true
 IsAllowed Stamp d = is_text (λ t. same t (codes "ticks") || same t (codes "time")) d ≡ true
 IsAllowed Path d = is_some (as_str d) ≡ true
 IsAllowed Losses d = is_list (rise_from 0) d ≡ true

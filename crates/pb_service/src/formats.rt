@@ -103,11 +103,23 @@ static CAPTURE: [Key; 10] = port_keys![
     optional!("stamp", Rule::Stamp),
 ];
 
+/// The keys of a customer port that only writes a capture file.
+static RECORD: [Key; 9] = port_keys![
+    needed!("write", Rule::Path),
+    optional!("stamp", Rule::Stamp)
+];
+
+/// The keys of a customer port that only reads a capture file.
+static REPLAY: [Key; 8] = port_keys![needed!("read", Rule::Path)];
+
 /// The keys of a customer port that connects to a socket.
-static SOCKET: [Key; 8] = port_keys![needed!("path", Rule::Path)];
+static SOCKET: [Key; 9] = port_keys![needed!("path", Rule::Path), optional!("stay", Rule::Flag)];
 
 /// The keys of a customer port that listens at a socket.
-static LISTENER: [Key; 8] = port_keys![needed!("listen", Rule::Path)];
+static LISTENER: [Key; 9] = port_keys![
+    needed!("listen", Rule::Path),
+    optional!("stay", Rule::Flag)
+];
 
 /// The keys of an event.
 static EVENT: [Key; 4] = [
@@ -130,6 +142,10 @@ fn port_keys(kind: &str, listens: bool) -> &'static [Key]
 {
     if kind == "capture" {
         &CAPTURE
+    } else if kind == "record" {
+        &RECORD
+    } else if kind == "replay" {
+        &REPLAY
     } else if kind == "socket" {
         if listens { &LISTENER } else { &SOCKET }
     } else {

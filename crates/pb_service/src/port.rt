@@ -10,7 +10,8 @@ ghost use Rattle.pb_service.specs.Keys.{IsAccepted};
 ghost use Rattle.pb_service.specs.Formats.{port_keys};
 ghost use Rattle.pb_service.specs.Clocks.{lacks_time};
 ghost use Rattle.pb_service.specs.Told.{has_key, rows_of};
-ghost use Rattle.pb_service.specs.Tables.{text_at, AreFrames, IsPortSpecOf, IsCustomerOf, IsReadPort};
+ghost use Rattle.pb_service.specs.Tables.{has_kind, AreFrames, IsStampOf, IsPortSpecOf, IsCustomerOf, IsReadPort};
+ghost use Rattle.pb_service.specs.Tables.{text_at};
 ghost use Rattle.pb_service.specs.UsedPorts.{AreUsedOnce};
 ghost use Rattle.pb_service.specs.Refusals.{Refuses, RefusesStamp, HasTables, CustomerLacks};
 ghost use Rattle.pb_service.specs.Refusals.{names_of, network_limits, link_ports, ports_told};
@@ -23,11 +24,11 @@ use crate::check::{check_row, put};
 use crate::fault::PlanFault;
 use crate::key_fault::KeyFault;
 use crate::link::named;
-use crate::port_spec::PortSpec;
+use crate::port_spec::{PortSpec, Stamp};
 use crate::row::told;
 use crate::section::{KeyTable, Section};
 use crate::table::{names_of, tables_at};
-use crate::told::{copy_at, has_key, items_at, number_at, stamp_of, text_at};
+use crate::told::{copy_at, flag_at, has_key, items_at, number_at, stamp_of, text_at};
 use crate::used::{LocalPort, use_port};
 use crate::values::text_in;
 use bytes::Bytes;
@@ -70,6 +71,23 @@ fn lacks_time(limits: Limits, stamp: &str) -> bool
     stamp == "time" && limits.tick_ms == 0
 }
 
+/// Returns the time stamp of the records that a port writes, from its table.
+///
+/// # Errors
+///
+/// `Range` if records are to have the time of day and no clock ticks by time, `Memory` if an allocation failed.
+fn stamp_in(alloc: Global, limits: Limits, row: &Table, index: usize) -> Result<Stamp, PlanFault>
+    ensures ok { IfOk result (IsStampOf limits (table_view row.now)) }
+    ensures err { IfErr result (RefusesStamp limits index (table_view row.now)) }
+{
+    let stamp = text_at(row, "stamp");
+    if lacks_time(limits, stamp) {
+        let key_table = KeyTable::Row(Section::Port, index);
+        return Err(told(alloc, key_table, "stamp", KeyFault::Range));
+    }
+    Ok(stamp_of(stamp))
+}
+
 /// Returns the port over two capture files that a table describes.
 ///
 /// # Errors
@@ -81,20 +99,34 @@ fn capture_of(
     row: &Table,
     index: usize,
 ) -> Result<PortSpec, PlanFault>
-    requires { same (text_at (table_view row.now) (codes "kind")) (codes "capture") ≡ true }
+    requires { has_kind (table_view row.now) (codes "capture") ≡ true }
     ensures ok { IfOk result (IsPortSpecOf limits (table_view row.now)) }
     ensures err { IfErr result (RefusesStamp limits index (table_view row.now)) }
 {
-    let stamp = text_at(row, "stamp");
-    if lacks_time(limits, stamp) {
-        let key_table = KeyTable::Row(Section::Port, index);
-        return Err(told(alloc, key_table, "stamp", KeyFault::Range));
-    }
-    Ok(PortSpec::Capture {
-        read: copy_at(alloc, row, "read")?,
-        write: copy_at(alloc, row, "write")?,
-        stamp: stamp_of(stamp),
-    })
+    let stamp = stamp_in(alloc, limits, row, index)?;
+    let read = copy_at(alloc, row, "read")?;
+    let write = copy_at(alloc, row, "write")?;
+    Ok(PortSpec::Capture { read, write, stamp })
+}
+
+/// Returns the port over a capture file to write that a table describes.
+///
+/// # Errors
+///
+/// `Range` if records are to have the time of day and no clock ticks by time, `Memory` if an allocation failed.
+fn record_of(
+    alloc: Global,
+    limits: Limits,
+    row: &Table,
+    index: usize,
+) -> Result<PortSpec, PlanFault>
+    requires { has_kind (table_view row.now) (codes "record") ≡ true }
+    ensures ok { IfOk result (IsPortSpecOf limits (table_view row.now)) }
+    ensures err { IfErr result (RefusesStamp limits index (table_view row.now)) }
+{
+    let stamp = stamp_in(alloc, limits, row, index)?;
+    let write = copy_at(alloc, row, "write")?;
+    Ok(PortSpec::Record { write, stamp })
 }
 
 /// Returns the path of a socket: that at which the port listens, or that to which it connects.
@@ -114,8 +146,7 @@ fn socket_path(alloc: Global, row: &Table, listens: bool) -> Result<Text, PlanFa
 ///
 /// # Errors
 ///
-/// `Range` if a capture's records are to have the time of day and no clock ticks by time, `Memory` if an allocation
-/// failed.
+/// `Range` if records are to have the time of day and no clock ticks by time, `Memory` if an allocation failed.
 fn port_spec_of(
     alloc: Global,
     limits: Limits,
@@ -131,10 +162,22 @@ fn port_spec_of(
     if kind == "capture" {
         return capture_of(alloc, limits, row, index);
     }
+    if kind == "record" {
+        return record_of(alloc, limits, row, index);
+    }
+    if kind == "replay" {
+        let read = copy_at(alloc, row, "read")?;
+        return Ok(PortSpec::Replay { read });
+    }
     if kind == "socket" {
         let listens = has_key(row, "listen");
+        let stays = flag_at(row, "stay");
         let path = socket_path(alloc, row, listens)?;
-        return Ok(PortSpec::Socket { path, listens });
+        return Ok(PortSpec::Socket {
+            path,
+            listens,
+            stays,
+        });
     }
     let frames = frames_of(alloc, items_at(row, "in"))?;
     Ok(PortSpec::Memory(Seq::from_vec(frames)))

@@ -30,12 +30,26 @@ pub enum PortSpec {
         /// The time stamp that the records of that file have.
         stamp: Stamp,
     },
+    /// A capture file for the frames that leave, by its path. No frame enters.
+    Record {
+        /// The path of the file for the frames that leave.
+        write: Text,
+        /// The time stamp that the records of that file have.
+        stamp: Stamp,
+    },
+    /// A capture file whose frames enter, by its path. The frames that leave are not written anywhere.
+    Replay {
+        /// The path of the file whose frames enter.
+        read: Text,
+    },
     /// A stream socket, by its path.
     Socket {
         /// The path of the socket.
         path: Text,
         /// Whether the port makes the socket and waits for a peer. Otherwise it connects to one.
         listens: bool,
+        /// Whether the port stays when its peer leaves, and takes the next one. Otherwise it has one peer.
+        stays: bool,
     },
 }
 

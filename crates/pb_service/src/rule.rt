@@ -19,9 +19,9 @@ pub(crate) enum Rule {
     Queues,
     /// The state of a port: `discarding`, `learning` or `forwarding`.
     State,
-    /// The kind of a customer port: `memory`, `capture` or `socket`.
+    /// The kind of a customer port: `memory`, `capture`, `record`, `replay` or `socket`.
     PortKind,
-    /// The time stamps of a capture's records: `ticks` or `time`.
+    /// The time stamps of the records of a capture: `ticks` or `time`.
     Stamp,
     /// Any text.
     Path,

@@ -10,6 +10,7 @@ ghost use Rattle.pb_frame.specs.Frames.{is_group};
 ghost use Rattle.pb_frame.specs.Hex.{is_digit, IsMacText};
 ghost use Rattle.pb_lan.specs.Names.{is_name};
 ghost use Rattle.pb_service.specs.Values.{natural_of, is_text, is_natural, all_items, any_item, is_list, is_hex};
+ghost use Rattle.pb_service.specs.Values.{is_file_kind, is_port_kind};
 ghost use Rattle.pb_service.specs.Values.{text_in, IsAddress, rise_from, are_distinct, is_of_kind, IsAllowed};
 
 use crate::rule::Rule;
@@ -151,13 +152,19 @@ fn is_state(value: &Value) -> bool
     }
 }
 
-/// Returns whether the value is `memory`, `capture` or `socket`.
+/// Returns whether the text is `capture`, `record` or `replay`: the kind of a port over capture files.
+fn is_file_kind(text: &str) -> bool
+    ensures { result ≡ is_file_kind text.now }
+{
+    text == "capture" || (text == "record" || text == "replay")
+}
+
+/// Returns whether the value is `memory`, `capture`, `record`, `replay` or `socket`.
 fn is_port_kind(value: &Value) -> bool
-    ensures { result ≡ is_text (λ t. same t (codes "memory") || (same t (codes "capture") || same t (codes "socket")))
-        (view value.now) }
+    ensures { result ≡ is_text is_port_kind (view value.now) }
 {
     match value.as_str() {
-        Some(text) => text == "memory" || (text == "capture" || text == "socket"),
+        Some(text) => text == "memory" || (is_file_kind(text) || text == "socket"),
         None => false,
     }
 }

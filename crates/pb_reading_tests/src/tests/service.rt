@@ -2,6 +2,7 @@
 
 mod both_ends;
 mod faults;
+mod kinds;
 mod lossless;
 mod order;
 mod plans;

@@ -90,9 +90,11 @@ bridge = "B2"
 port = 3
 service = "red"
 
-# Ports of other kinds: a capture port reads frames from one file (pcap) and writes to another, and a
-# socket port exchanges frames over a Unix socket. The file to read must exist, and a peer must listen.
-# With listen in place of path the port creates the socket. A plan has at most 128 customer ports.
+# Ports of other kinds: a capture port reads frames from one file (pcap) and writes to another, a replay
+# port only reads one, a record port only writes one, and a socket port exchanges frames over a Unix
+# socket. The file to read must exist, and a peer must listen. With listen in place of path the port
+# creates the socket. With stay = true another peer may follow one that has left. A plan has at most 128
+# customer ports.
 
 #[[port]]
 #name = "capture"
@@ -111,6 +113,7 @@ service = "red"
 #service = "red"
 #kind = "socket"
 #path = "port.sock"
+#stay = false
 
 # An event of a run: at tick 300 of B1 its port 1 is disabled. With up = true it is enabled.
 #[[event]]

@@ -15,6 +15,10 @@ const MEMORY: &str = "{ name = 'M', bridge = 'B', port = 1, service = 'red' }";
 const CAPTURE: &str =
     "{ name = 'C', bridge = 'B', port = 2, service = 'red', kind = 'capture', read = 'r', write = 'w' }";
 
+/// A port that writes a capture.
+const RECORD: &str =
+    "{ name = 'R', bridge = 'B', port = 4, service = 'red', kind = 'record', write = 'v' }";
+
 /// A port over a socket.
 const SOCKET: &str =
     "{ name = 'S', bridge = 'B', port = 3, service = 'red', kind = 'socket', listen = 's' }";
@@ -24,6 +28,7 @@ const ROWS: &[(&str, [&str; 2], bool)] = &[
     ("", [MEMORY, CAPTURE], true),
     ("", [MEMORY, SOCKET], false),
     ("", [SOCKET, CAPTURE], false),
+    ("", [RECORD, CAPTURE], true),
     ("lossless = 'auto'", [MEMORY, CAPTURE], true),
     ("lossless = 'auto'", [SOCKET, CAPTURE], false),
     ("lossless = true", [SOCKET, CAPTURE], true),

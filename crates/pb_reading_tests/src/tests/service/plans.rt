@@ -11,9 +11,7 @@ use pb_lan::{
     BridgePlan, CustomerPlan, End, LinkPlan, Mac, Plan, PortState, Queues, Seq, ServicePlan,
     Spanning,
 };
-use pb_service::{
-    Limits, PlanFault, PortEvent, PortSpec, Stamp, read_limits, read_plan, read_plan_file,
-};
+use pb_service::{Limits, PlanFault, PortEvent, PortSpec, read_limits, read_plan, read_plan_file};
 use std::alloc::Global;
 use std::fmt::Write;
 
@@ -96,7 +94,7 @@ fn are_customers(customers: &[CustomerPlan]) -> bool {
 }
 
 /// Returns whether there are three ports, of which the last is this one.
-fn are_ports(ports: &[PortSpec], want: &PortSpec) -> bool {
+pub(super) fn are_ports(ports: &[PortSpec], want: &PortSpec) -> bool {
     match ports {
         [_, _, last] => last == want,
         _ => false,
@@ -318,72 +316,6 @@ fn have_lists(links: &[LinkPlan]) -> bool {
 fn links_have_their_lists(rt: HostRuntime) -> Result<(), PlanFault> {
     let (plan, _) = read_plan(rt.alloc(), LINK.as_bytes())?;
     assert!(rt; have_lists(plan.links.as_slice()));
-    Ok(())
-}
-
-/// Returns whether a port with these keys is of this kind.
-fn is_port(alloc: Global, keys: &str, want: &PortSpec) -> Result<bool, PlanFault> {
-    let text = format!(in alloc; "{NETWORK}{keys}\n")?;
-    let (_, ports) = read_plan(alloc, text.as_bytes())?;
-    Ok(are_ports(&ports, want))
-}
-
-/// Returns a port over memory with a frame of the octets 0A and FF, and an empty frame.
-fn memory(alloc: Global) -> Result<PortSpec, PlanFault> {
-    let mut frames = Vec::new(alloc);
-    frames.push(Bytes::copy_from_slice(alloc, &[0x0a, 0xff])?)?;
-    frames.push(Bytes::copy_from_slice(alloc, &[])?)?;
-    Ok(PortSpec::Memory(Seq::from_vec(frames)))
-}
-
-/// Returns a text of the plan.
-fn text(alloc: Global, word: &str) -> Result<Text, PlanFault> {
-    Ok(Text::from_string(String::from_str(alloc, word)?))
-}
-
-/// Returns a port over two captures.
-fn capture(alloc: Global, stamp: Stamp) -> Result<PortSpec, PlanFault> {
-    let read = text(alloc, "in.pcap")?;
-    let write = text(alloc, "out.pcap")?;
-    Ok(PortSpec::Capture { read, write, stamp })
-}
-
-/// Returns a port over a socket.
-fn socket(alloc: Global, listens: bool) -> Result<PortSpec, PlanFault> {
-    let path = text(alloc, "p")?;
-    Ok(PortSpec::Socket { path, listens })
-}
-
-/// Returns whether the keys of a port over memory are read.
-fn is_memory(alloc: Global) -> Result<bool, PlanFault> {
-    let want = memory(alloc)?;
-    is_port(alloc, "in = [\"0aFf\", \"\"]", &want)
-}
-
-/// Returns whether the keys of a port over captures are read, with this stamp.
-fn is_capture(alloc: Global, stamp: &str, want: Stamp) -> Result<bool, PlanFault> {
-    let want = capture(alloc, want)?;
-    let keys = format!(in alloc;
-        "kind = \"capture\"\nread = \"in.pcap\"\nwrite = \"out.pcap\"\n{stamp}\n[network]\ntick_ms = 10"
-    )?;
-    is_port(alloc, keys.as_str(), &want)
-}
-
-/// Returns whether the keys of a port over a socket are read, with its path at this key.
-fn is_socket(alloc: Global, key: &str, listens: bool) -> Result<bool, PlanFault> {
-    let want = socket(alloc, listens)?;
-    let keys = format!(in alloc; "kind = \"socket\"\n{key} = \"p\"")?;
-    is_port(alloc, keys.as_str(), &want)
-}
-
-#[test]
-fn ports_are_of_three_kinds(rt: HostRuntime) -> Result<(), PlanFault> {
-    assert!(rt; is_memory(rt.alloc())?);
-    assert!(rt; is_capture(rt.alloc(), "", Stamp::Ticks)?);
-    assert!(rt; is_capture(rt.alloc(), "stamp = \"ticks\"", Stamp::Ticks)?);
-    assert!(rt; is_capture(rt.alloc(), "stamp = \"time\"", Stamp::Time)?);
-    assert!(rt; is_socket(rt.alloc(), "path", false)?);
-    assert!(rt; is_socket(rt.alloc(), "listen", true)?);
     Ok(())
 }
 

@@ -11,5 +11,5 @@ loop-place-preserved g c =
     let port = c.index-ports-place.result in
     let next : drop c.loop-place.place ports ≡ port ∷ left =
     drop_more ports c.loop-place.place port c.loop-place-test.true ∙ ap (λ p. p ∷ left) (sym c.index-ports-place.is) in
-    begun_more _ _ _ _ _ (emptying (shown port).1) (emptied (map shown left)) c.loop-place.invariant
+    begun_more _ _ _ _ _ (emptying (shown port).write) (emptied (map shown left)) c.loop-place.invariant
     (ap (λ ports. emptied (map shown ports)) next) c.in_ok-empty_out.ensures.ok

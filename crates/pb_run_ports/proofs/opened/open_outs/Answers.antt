@@ -18,7 +18,7 @@ loop-port-preserved g c = record {
       (into_iter_items c.loop-port.port-iterator) (into_iter_items c.next.new.self)
       c.in-Some.port _ c.loop-port.invariant.ports c.in_ok-push.ensures.items c.in-Some.ensures.steps.0
       c.in_ok-port.ensures.ok.1;
-  done = begun_more _ _ _ _ _ (opening (shown c.in-Some.port).1)
+  done = begun_more _ _ _ _ _ (opening (shown c.in-Some.port).write)
       (written (map shown (into_iter_items c.next.new.self))) c.loop-port.invariant.done
       (ap (λ ports. written (map shown ports)) c.in-Some.ensures.steps.0) c.in_ok-port.ensures.ok.0;
 }
@@ -29,7 +29,7 @@ returns-in_err-push-clause-err g c =
     let given : into_iter_items c.into_iter-port-iterator.result ≡ c.args.ports.items = search rules in
     rw p.1 (
       p.2,
-      has_begun_more _ _ _ _ _ (opening (shown c.in-Some.port).1)
+      has_begun_more _ _ _ _ _ (opening (shown c.in-Some.port).write)
           (written (map shown (into_iter_items c.next.new.self))) _ c.loop-port.invariant.done
           (ap (λ ports. written (map shown ports)) c.in-Some.ensures.steps.0) c.in_ok-port.ensures.ok.0
           (ap (λ ports. written (map shown ports)) given),

@@ -6,4 +6,4 @@ use Rattle.pb_service.proofs.port.port_spec_of.Goals as goal
 
 pub frames_of-requires : goal.frames_of-requires
 frames_of-requires c = ap (all_items (is_text is_hex)) c.items_at.ensures
-    ∙ accepted_frames (table_view c.args.row.now) c.requires (search rules) (search rules)
+    ∙ accepted_frames (table_view c.args.row.now) c.requires (search rules) (search rules) (search rules) (search rules)
