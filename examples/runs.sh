@@ -418,7 +418,8 @@ ended 3
 tail -n 1 out/pcapng.all >out/pcapng.report
 says out/pcapng.report "fault: port C1 1"
 says out/errors "error: port C1: cannot read out/wrong.pcapng: it is a pcapng file
-hint: convert it to pcap by \`editcap -F pcap\`"
+hint: convert it to pcap by \`editcap -F pcap\`
+port C1: not a capture"
 
 # The writer of the named pipe comes late, and holds up nobody.
 # What is printed never gets into a file that took the place of a closed descriptor.

@@ -2,14 +2,14 @@
 # Compares pbnet with other programs. Installs the Debian packages that the parts need, and runs each part. The exit status
 # is 0 if each row of each table is alike or a listed difference.
 #
-#     interop/all.sh [PART..]     all parts, or these: differences survive diff eager wireshark openvswitch rings vde
+#     interop/all.sh [PART..]     all parts, or these: differences survive diff eager comeback wireshark openvswitch rings vde
 #                                 speed linux
 #
 # The program is ./pbnet, or that of the variable PBNET. The gate does not run this script.
 set -eu
 cd -- "$(dirname -- "$0")/.."
 
-all=(differences survive diff eager wireshark openvswitch rings vde speed linux)
+all=(differences survive diff eager comeback wireshark openvswitch rings vde speed linux)
 parts=("$@")
 [ "${#parts[@]}" -gt 0 ] || parts=("${all[@]}")
 status=0

@@ -1,7 +1,7 @@
 -- Opened ports that agree with the plan file (used by `open_system`).
 use Rattle.std.proofs.Common.{◌≡◌, List, [], ◌∷◌, length, map, refl, ap, sym, ◌∙◌}
 use Rattle.std.proofs.lemmas.List.{length-map}
-use Rattle.pb_run_ports.specs.Opened.{asked, shown}
+use Rattle.pb_run_ports.specs.Opened.{Shown, asked, shown}
 use Rattle.pb_run_ports.specs.Opened.{script_in}
 use Rattle.pb_run_ports.specs.declared.opened.Opened.{Opened}
 use Rattle.pb_service.specs.declared.port_spec.PortSpec.{PortSpec}
@@ -12,9 +12,10 @@ map_twice f g (x ∷ xs) = ap (λ l. f (g x) ∷ l) (map_twice f g xs)
 
 -- they have the frames that the file lists
 pub shows_scripts : {I O S : Type 0} (ports : List (Opened I O S)) (specs : List PortSpec)
-    → map shown ports ≡ map asked specs → map (λ port. (shown port).0) ports ≡ map script_in specs
-shows_scripts ports specs same = sym (map_twice (λ s. s.0) shown ports) ∙ ap (map (λ s. s.0)) same
-    ∙ map_twice (λ s. s.0) asked specs
+    → map shown ports ≡ map asked specs → map (λ port. (shown port).frames) ports ≡ map script_in specs
+shows_scripts ports specs same =
+    sym (map_twice (λ (s : Shown). s.frames) shown ports) ∙ ap (map (λ (s : Shown). s.frames)) same
+    ∙ map_twice (λ (s : Shown). s.frames) asked specs
 
 -- there are as many
 pub shows_length : {I O S : Type 0} (ports : List (Opened I O S)) (specs : List PortSpec)

@@ -4,3 +4,4 @@ pub mod Scripted
 pub mod Faults
 pub mod Networks
 pub mod Telling
+pub mod PortFaults

@@ -13,17 +13,24 @@ use std::fs::File;
 use std::io;
 use std::io::Write;
 
-/// The files of a capture port of a network.
+/// A file that a port writes.
+#[derive(Drop)]
+pub(crate) struct WrittenFile {
+    /// Its path.
+    pub path: Text,
+    /// A handle of the file, which shares its position with that of the port.
+    pub file: File,
+}
+
+/// The capture files of a port of a network.
 #[derive(Drop)]
 pub(crate) struct CaptureFiles {
     /// The port's place in the plan, from 0.
     pub place: usize,
-    /// The path of the file that it reads.
-    pub read: Text,
-    /// The path of the file that it writes.
-    pub write: Text,
-    /// A handle of the file that it writes, which shares its position with that of the port.
-    pub file: File,
+    /// The path of the file that it reads, if it reads one.
+    pub read: Option<Text>,
+    /// The file that it writes, if it writes one.
+    pub written: Option<WrittenFile>,
 }
 
 /// Returns the octets of a capture without records, as a capture port writes them before its first record.
@@ -67,10 +74,13 @@ pub(crate) fn complete_all<E: Write>(
     files: &[CaptureFiles],
     errors: &mut E,
 ) {
-    for written in files {
+    for captures in files {
+        let Some(written) = &captures.written else {
+            continue;
+        };
         if let Err(error) = complete(&written.file) {
-            let name = name_at(customers, written.place);
-            let path = written.write.as_str();
+            let name = name_at(customers, captures.place);
+            let path = written.path.as_str();
             show_path_fault(alloc, name, Verb::Write, path, &error, errors);
         }
     }

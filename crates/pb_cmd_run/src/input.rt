@@ -1,5 +1,7 @@
 //! Inputs of captures, whose reads don't block.
 
+ghost use Rattle.std.specs.Io.{ReadsAtMost};
+
 use std::fs::{File, Files, OpenOptions};
 use std::io::{ErrorKind, Read, Write};
 use std::os::fd::OwnedFd;
@@ -9,20 +11,45 @@ use std::{fs, io};
 
 /// A file that is read.
 #[derive(Drop)]
-pub(crate) struct Input {
+pub(crate) struct Source {
     file: File,
     /// For a named pipe from which nothing has come: a writer that the run itself holds, which keeps the pipe from its
     /// end until another writer has come.
     writer: Option<File>,
 }
 
-impl Read for Input {
-    fn read(&mut self, buf: &mut [u8]) -> io::Result<usize> {
+/// The input of a port over captures.
+#[derive(Drop)]
+pub(crate) enum Input {
+    /// A file.
+    File(Source),
+    /// No octets: each read is at the end.
+    Empty,
+}
+
+impl Source {
+    /// Reads from the file, as `read` of [`Read`] does.
+    ///
+    /// # Errors
+    ///
+    /// The error of the system.
+    fn read(&mut self, buf: &mut [u8]) -> io::Result<usize>
+        ensures { ReadsAtMost result buf.new }
+    {
         let count = self.file.read(buf)?;
         if count > 0 {
             self.writer = None;
         }
         Ok(count)
+    }
+}
+
+impl Read for Input {
+    fn read(&mut self, buf: &mut [u8]) -> io::Result<usize> {
+        match self {
+            Input::File(source) => source.read(buf),
+            Input::Empty => Ok(0),
+        }
     }
 }
 
@@ -58,7 +85,7 @@ fn open_pipe<R: Files<File = File>>(rt: &R, path: &str, is_standard: bool) -> io
     let file = File::open(rt, path)?;
     stop_waiting(&file)?;
     let writer = if is_standard { None } else { Some(writer) };
-    Ok(Input { file, writer })
+    Ok(Input::File(Source { file, writer }))
 }
 
 /// Opens a file for reading, or standard input if the path is `-`. Its reads don't block.
@@ -80,5 +107,5 @@ pub(crate) fn open_input<R: Files<File = File>>(rt: &R, path: &str) -> io::Resul
     if !metadata.is_file() {
         stop_waiting(&file)?;
     }
-    Ok(Input { file, writer: None })
+    Ok(Input::File(Source { file, writer: None }))
 }

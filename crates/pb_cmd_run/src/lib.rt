@@ -1,12 +1,13 @@
 //! The command `run`: the network of a plan file in threads, between files and sockets.
 //!
 //! It runs the workers of pb_run over the ports of pb_port, opens them with pb_run_ports, and takes events and the
-//! control
-//! socket from pb_run_control. Begin with [`run_network`] in `network.rt`. The other files open ports and print texts.
+//! control socket from pb_run_control. Begin with [`run_network`] in `network.rt`. The other files open ports and print texts.
 #![tactic(auto)]
 
 mod any_port;
+mod attended;
 mod completing;
+mod door;
 mod input;
 mod linger;
 mod network;
@@ -14,16 +15,21 @@ mod network_fault;
 mod outside;
 mod pcapng;
 mod peer;
+mod plug;
+mod port_faults;
 mod report;
 mod settings;
+mod sink;
+mod socket_ports;
 mod stalls;
 mod system;
 mod telling;
+mod visits;
 mod watched;
 
 pub use network::run_network;
 pub use network_fault::NetworkFault;
-pub use pb_run_control::{Opening, RunProgress, Traffic};
+pub use pb_run_control::{Opening, PeerChange, RunProgress, Traffic};
 pub use pb_run_losses::{Strictness, lost_of};
 pub use pb_run_ports::{
     Deed, FileUser, OpenFault, Opened, Openings, PathFault, SharedFile, Verb, open_all,

@@ -14,17 +14,19 @@ ghost use Rattle.pb_run_ports.specs.Opened.{script_in};
 ghost use Rattle.pb_run_losses.specs.Strict.{lost_text};
 ghost use Rattle.pb_run_losses.specs.declared.strictness.Strictness.TheVariants.{Strict as strict};
 
+use crate::attended::Attended;
 use crate::completing::{CaptureFiles, complete_all};
 use crate::linger::{Lingering, lingered};
 use crate::network_fault::NetworkFault;
 use crate::outside::{Outside, SystemPort, open_ports};
 use crate::pcapng::show_pcapng;
 use crate::peer::remove_sockets;
+use crate::plug::plug;
+use crate::port_faults::show_port_faults;
 use crate::report::write_report;
 use crate::settings::RunSettings;
 use crate::stalls::show_stalls;
 use crate::watched::Watched;
-use pb_control_socket::Control;
 use pb_frame::Memory;
 use pb_history::Tallies;
 use pb_lan::{Limits, Plan, Spanning};
@@ -36,10 +38,9 @@ use pb_run_losses::{Strictness, exit_status, is_whole, lost_of};
 use pb_service::{PlanFault, PlanFile, PortSpec, read_plan_file};
 use std::alloc::Global;
 use std::fs::{File, Files};
-use std::io;
 use std::io::Write;
-use std::net::Net;
-use std::sync::{Arc, Wait};
+use std::net::{Net, TcpListener, TcpStream};
+use std::sync::{Arc, Mutex, Wait};
 use std::thread::Threads;
 use std::time::Clock;
 
@@ -89,45 +90,9 @@ fn lost_under(
 }
 
 /// Writes a text to `errors`, unless it is empty. A failed write is ignored.
-fn show<E: Write>(text: &str, errors: &mut E) {
+pub(crate) fn show<E: Write>(text: &str, errors: &mut E) {
     if !text.is_empty() {
         let _ = write_whole(errors, text.as_bytes());
-    }
-}
-
-/// Writes a line to `errors` that the control socket can't be made.
-fn show_unmade<E: Write>(alloc: Global, path: &str, error: &io::Error, errors: &mut E) {
-    if let Ok(text) = format!(in alloc; "error: cannot create control socket {path}: {error}\n") {
-        show(text.as_str(), errors);
-    }
-}
-
-/// Makes the control socket of a run, if the settings ask for one.
-///
-/// # Errors
-///
-/// `Path` if it can't be made, with a line in `errors`.
-fn plug<R: Files + Net, G, E: Write>(
-    rt: &R,
-    alloc: Global,
-    path: Option<&str>,
-    steering: &Steering<'_, G>,
-    errors: &mut E,
-) -> Result<(), NetworkFault>
-    ensures { IfErr result (λ e. e ≡ NetworkFault.Path) }
-{
-    let Some(path) = path else {
-        return Ok(());
-    };
-    match Control::open(rt, alloc, path) {
-        Ok(control) => {
-            steering.plug(control);
-            Ok(())
-        }
-        Err(e) => {
-            show_unmade(alloc, path, &e, errors);
-            Err(NetworkFault::Path)
-        }
     }
 }
 
@@ -181,6 +146,7 @@ fn tell<W: Write, E: Write>(
     let ports = ran.ports.as_slice();
     let lost = lost_under(alloc, strictness, plan, ports, &ran.counts, &ran.settled)?;
     let told = write_report(alloc, plan, ran, writer)?;
+    show_port_faults(alloc, plan, ran, errors);
     show(lost.as_str(), errors);
     let is_whole = is_whole(ran.ended, lost.as_str());
     Ok(exit_status(strictness, is_whole, told))
@@ -260,7 +226,8 @@ fn run_opened<R, G: RunProgress, W: Write, E: Write>(
     errors: &mut E,
 ) -> Result<u8, NetworkFault>
 where
-    R: Files<File = File> + Net + Threads + Wait + Clock + Sync,
+    R: Files<File = File> + Net<Listener = TcpListener, Stream = TcpStream>,
+    R: Threads + Wait + Clock + Sync,
     requires sound { IsSound plan.now }
     requires count { vec_len specs ≡ length plan.now.customers }
     ensures ok { IfOk result (λ status. PrintsRan strictness plan.now specs.items is_lossless status
@@ -273,13 +240,22 @@ where
         traffic,
     };
     let path = settings.plan;
-    let outside = open_ports(rt, alloc, path, plan, specs, limits, traffic, errors)?;
+    let mut doors = Vec::new(alloc);
+    let outside = open_ports(
+        rt, alloc, path, plan, specs, limits, traffic, &mut doors, errors,
+    )?;
     let Outside {
         ports,
         files,
         sockets,
     } = outside;
     let files = files.as_slice();
+    let gate = Attended {
+        rt,
+        gate,
+        customers: plan.customers.as_slice(),
+        doors: Mutex::new(doors),
+    };
     let ran = run_ports(
         rt,
         alloc,
@@ -290,7 +266,7 @@ where
         is_lossless,
         strictness,
         lingering,
-        gate,
+        &gate,
         writer,
         errors,
     );
@@ -302,11 +278,10 @@ where
 /// file is no plan, it writes the rule that the file breaks, as `check` does, and returns 1.
 ///
 /// Each bridge, each direction of a link and each customer port has a thread of its own. Ports lead to the files and
-/// sockets that the file names. If the file wants a lossless run, no bridge refuses a copy of a frame because a queue is
-/// full, and `errors` has a line for each service whose links form a loop at the start, since frames can wait for each
-/// other there. The run keeps the limits of the file, and each worker passes the gate before each of
-/// its turns. `traffic` counts the frames that enter and leave, the copies that are not queued and the ticks during the
-/// run.
+/// sockets that the file names. If the file wants a lossless run, no bridge refuses a copy of a frame because a queue
+/// is full, and `errors` has a line for each service whose links form a loop at the start, since frames can wait for
+/// each other there. The run keeps the limits of the file, and each worker passes the gate before each of its turns.
+/// `traffic` counts the frames that enter and leave, the copies that are not queued and the ticks during the run.
 ///
 /// Ports between bridges are disabled and enabled by the file's events, each when the clock of its bridge has ticked so
 /// often. `errors` reports how many events had not come when the run ended. A client of the control socket, if the
@@ -342,7 +317,8 @@ pub fn run_network<R, G: RunProgress, W: Write, E: Write>(
     errors: &mut E,
 ) -> Result<u8, NetworkFault>
 where
-    R: Files<File = File> + Net + Threads + Wait + Clock + Sync,
+    R: Files<File = File> + Net<Listener = TcpListener, Stream = TcpStream>,
+    R: Threads + Wait + Clock + Sync,
     ensures ok { IfOk result (λ status. PrintsNetwork strictness file.now status (W.contents writer.old)
         (W.contents writer.new)) }
     ensures err { IfErr result (λ e. e ≡ NetworkFault.Ports → ⊥) }

@@ -6,17 +6,21 @@ ghost use Rattle.pb_run_ports.specs.Opened.{script_in, shown};
 ghost use Rattle.pb_cmd_run.specs.Scripted.{script_at};
 
 use crate::any_port::AnyPort;
-use crate::completing::CaptureFiles;
+use crate::completing::{CaptureFiles, WrittenFile};
+use crate::door::GateDoor;
 use crate::input::Input;
 use crate::network_fault::NetworkFault;
 use crate::peer::{Peer, SocketFile, remove_sockets};
+use crate::sink::Sink;
+use crate::socket_ports::staying_port;
 use crate::system::{Output, System};
 use crate::telling::show_open_fault;
+use crate::visits::Visits;
 use crate::watched::Watched;
 use bytes::Bytes;
-use pb_frame::Seq;
+use pb_frame::{Seq, Text};
 use pb_lan::{Limits, Plan};
-use pb_port::{CapturePort, MemoryPort, Over, SocketPort, Timescale};
+use pb_port::{CapturePort, MemoryPort, Over, SocketPort, StayingPort, Timescale};
 use pb_run_control::Traffic;
 use pb_run_ports::{Opened, open_all};
 use pb_service::{PortSpec, Stamp};
@@ -28,11 +32,15 @@ use std::net::Net;
 use std::sync::Arc;
 use std::time::Clock;
 
+/// A port over files of the system: over two captures or over one.
+type FilePort = CapturePort<Over<Input>, Over<Sink>>;
+
 /// A port over memory, over files of the system or over a socket of the system.
 pub(crate) type SystemPort = AnyPort<
     MemoryPort,
-    CapturePort<Over<Input>, Over<File>>,
+    FilePort,
     SocketPort<Over<Peer>>,
+    StayingPort<Visits>,
 >;
 
 /// The open files or the open socket of a port.
@@ -93,8 +101,63 @@ fn scale_of(stamp: Stamp, day: Timescale) -> Timescale {
     }
 }
 
+/// Parts the two handles of a file that a port writes: that of the port, and that which is kept until the run is over.
+fn parted(output: Output, path: Text) -> (Sink, WrittenFile) {
+    let Output { file, twin, .. } = output;
+    (Sink::File(file), WrittenFile { path, file: twin })
+}
+
+/// Appends the files of a port.
+///
+/// # Errors
+///
+/// `AllocError` if an allocation failed.
+fn put_files(
+    files: &mut Vec<CaptureFiles>,
+    place: usize,
+    read: Option<Text>,
+    written: Option<WrittenFile>,
+) -> Result<(), AllocError> {
+    files.push(CaptureFiles {
+        place,
+        read,
+        written,
+    })?;
+    Ok(())
+}
+
+/// Returns a port that reads one capture and writes another.
+fn capture_port(
+    alloc: Global,
+    capacity: u16,
+    scale: Timescale,
+    input: Input,
+    sink: Sink,
+) -> FilePort
+    requires { (0 < capacity) × (capacity ≤ 4096) }
+{
+    let (input, sink) = (Over::new(input), Over::new(sink));
+    CapturePort::on_scale(alloc, capacity, scale, input, sink)
+}
+
+/// Returns a port that writes a capture and that no frame enters.
+fn record_port(alloc: Global, capacity: u16, scale: Timescale, sink: Sink) -> FilePort
+    requires { (0 < capacity) × (capacity ≤ 4096) }
+{
+    let (input, sink) = (Over::new(Input::Empty), Over::new(sink));
+    CapturePort::recording(alloc, capacity, scale, input, sink)
+}
+
+/// Returns a port that reads a capture and drops the frames that leave.
+fn replay_port(alloc: Global, capacity: u16, input: Input) -> FilePort
+    requires { (0 < capacity) × (capacity ≤ 4096) }
+{
+    let (input, sink) = (Over::new(input), Over::new(Sink::Nowhere));
+    CapturePort::new(alloc, capacity, input, sink)
+}
+
 /// Returns the port at a place of the plan over its open files or its open socket. The files of a port over captures
-/// are appended to `files`.
+/// are appended to `files`, the door of a port that stays to `doors`.
 ///
 /// # Errors
 ///
@@ -106,9 +169,10 @@ fn port_of(
     day: Timescale,
     opened: SystemOpened,
     files: &mut Vec<CaptureFiles>,
+    doors: &mut Vec<GateDoor>,
 ) -> Result<SystemPort, AllocError>
     requires { (0 < capacity) × (capacity ≤ 4096) }
-    ensures { IfOk result (λ port. script_at port ≡ (shown opened).0) }
+    ensures { IfOk result (λ port. script_at port ≡ (shown opened).frames) }
 {
     match opened {
         Opened::Memory(frames) => {
@@ -122,21 +186,39 @@ fn port_of(
             write,
             stamp,
         } => {
-            let Output { file, twin, .. } = output;
-            files.push(CaptureFiles {
-                place,
-                read,
-                write,
-                file: twin,
-            })?;
+            let (sink, written) = parted(output, write);
+            put_files(files, place, Some(read), Some(written))?;
             let scale = scale_of(stamp, day);
-            let (input, file) = (Over::new(input), Over::new(file));
-            let port = CapturePort::on_scale(alloc, capacity, scale, input, file);
+            let port = capture_port(alloc, capacity, scale, input, sink);
             Ok(AnyPort::Capture(port))
         }
-        Opened::Socket(peer) => {
-            let peer = Over::new(peer);
+        Opened::Record {
+            output,
+            write,
+            stamp,
+        } => {
+            let (sink, written) = parted(output, write);
+            put_files(files, place, None, Some(written))?;
+            let scale = scale_of(stamp, day);
+            Ok(AnyPort::Capture(record_port(alloc, capacity, scale, sink)))
+        }
+        Opened::Replay { input, read } => {
+            put_files(files, place, Some(read), None)?;
+            Ok(AnyPort::Capture(replay_port(alloc, capacity, input)))
+        }
+        Opened::Socket {
+            stream,
+            stays: false,
+        } => {
+            let peer = Over::new(stream);
             Ok(AnyPort::Socket(SocketPort::new(alloc, capacity, peer)))
+        }
+        Opened::Socket {
+            stream,
+            stays: true,
+        } => {
+            let port = staying_port(alloc, capacity, number_at(place), stream, doors)?;
+            Ok(AnyPort::Staying(port))
         }
     }
 }
@@ -156,7 +238,7 @@ fn number_at(place: usize) -> u8 {
 }
 
 /// Returns the ports of a plan over their open files and sockets. Their frames are counted in `traffic`. The files of
-/// ports over captures are appended to `files`.
+/// ports over captures are appended to `files`, the doors of ports that stay to `doors`.
 ///
 /// # Errors
 ///
@@ -168,18 +250,19 @@ fn ports_of(
     opened: Vec<SystemOpened>,
     traffic: &Arc<Traffic, Global>,
     files: &mut Vec<CaptureFiles>,
+    doors: &mut Vec<GateDoor>,
 ) -> Result<Vec<Watched<SystemPort>>, AllocError>
     requires sound { IsSound plan.now }
     requires count { vec_len opened ≡ length plan.now.customers }
     ensures count { IfOk result (λ ports. vec_len ports ≡ length plan.now.customers) }
     ensures scripts { IfOk result (λ ports. map (λ w. script_at w.port) ports.items
-        ≡ map (λ port. (shown port).0) opened.items) }
+        ≡ map (λ port. (shown port).frames) opened.items) }
 {
     let mut ports = Vec::new(alloc);
     for port in opened {
         let place = ports.len();
         let capacity = capacity_of(plan, place);
-        let port = port_of(alloc, capacity, place, day, port, files)?;
+        let port = port_of(alloc, capacity, place, day, port, files, doors)?;
         let traffic = Arc::try_clone(traffic)?;
         ports.push(Watched {
             port,
@@ -207,7 +290,7 @@ fn open_system<R: Files<File = File> + Net, E: Write>(
     errors: &mut E,
 ) -> Result<OpenSystem, NetworkFault>
     ensures count { IfOk result (λ system. vec_len system.opened ≡ vec_len specs) }
-    ensures scripts { IfOk result (λ system. map (λ port. (shown port).0) system.opened.items
+    ensures scripts { IfOk result (λ system. map (λ port. (shown port).frames) system.opened.items
         ≡ map script_in specs.items) }
     ensures err { IfErr result (λ e. (e ≡ NetworkFault.Path) ⊎ (e ≡ NetworkFault.Memory)) }
 {
@@ -229,7 +312,8 @@ fn open_system<R: Files<File = File> + Net, E: Write>(
     }
 }
 
-/// Opens the ports of a plan that was read at `plan_path`. Their frames are counted in `traffic`.
+/// Opens the ports of a plan that was read at `plan_path`. Their frames are counted in `traffic`. The doors of ports that
+/// stay are appended to `doors`.
 ///
 /// # Errors
 ///
@@ -243,6 +327,7 @@ pub(crate) fn open_ports<R: Files<File = File> + Net + Clock, E: Write>(
     specs: Vec<PortSpec>,
     limits: Limits,
     traffic: &Arc<Traffic, Global>,
+    doors: &mut Vec<GateDoor>,
     errors: &mut E,
 ) -> Result<Outside, NetworkFault>
     requires sound { IsSound plan.now }
@@ -256,7 +341,7 @@ pub(crate) fn open_ports<R: Files<File = File> + Net + Clock, E: Write>(
     let OpenSystem { opened, sockets } = system;
     let day = day_scale(rt, limits.tick_ms);
     let mut files = Vec::new(alloc);
-    match ports_of(alloc, plan, day, opened, traffic, &mut files) {
+    match ports_of(alloc, plan, day, opened, traffic, &mut files, doors) {
         Ok(ports) => Ok(Outside {
             ports,
             files,

@@ -48,7 +48,10 @@ pub(crate) fn show_pcapng<E: Write>(
     errors: &mut E,
 ) {
     for capture in files {
-        let path = capture.read.as_str();
+        let Some(path) = &capture.read else {
+            continue;
+        };
+        let path = path.as_str();
         let is_refused = matches!(
             lasts.get(capture.place),
             Some(Last::Fault(PortFault::Magic))

@@ -1,5 +1,7 @@
 //! The peers of socket ports.
 
+use crate::door::PortDoor;
+use crate::visits::Visits;
 use mio::net::{UnixListener, UnixStream};
 use pb_control_socket::node_at;
 use pb_frame::Text;
@@ -7,16 +9,54 @@ use std::fs::Files;
 use std::io::{ErrorKind, Read, Write};
 use std::{fs, io};
 
-/// The peer of a socket port.
+/// The socket of a port.
 #[derive(Drop)]
-pub(crate) enum Peer {
-    /// It is connected.
+enum Socket {
+    /// The peer is connected.
     Here(UnixStream),
-    /// It has not connected yet.
+    /// The peer has not connected yet.
     Awaited(UnixListener),
 }
 
+/// The peer of a socket port.
+#[derive(Drop)]
+pub(crate) struct Peer {
+    socket: Socket,
+    /// The path at which a port that stays connects again.
+    path: Option<Text>,
+}
+
 impl Peer {
+    /// Returns a peer that is connected. A port that stays connects again at the path.
+    pub(crate) fn here(stream: UnixStream, path: Option<Text>) -> Peer {
+        Peer {
+            socket: Socket::Here(stream),
+            path,
+        }
+    }
+
+    /// Returns a peer that is to connect to the listener.
+    pub(crate) fn awaited(listener: UnixListener) -> Peer {
+        Peer {
+            socket: Socket::Awaited(listener),
+            path: None,
+        }
+    }
+
+    /// Takes the path at which the port connects again, if it does.
+    pub(crate) fn take_path(&mut self) -> Option<Text> {
+        self.path.take()
+    }
+
+    /// Returns the peer as the first of a port that stays, with the port's side of its door.
+    pub(crate) fn staying(self, door: PortDoor) -> Visits {
+        let Peer { socket, .. } = self;
+        match socket {
+            Socket::Here(stream) => Visits::new(Some(stream), None, door),
+            Socket::Awaited(listener) => Visits::new(None, Some(listener), door),
+        }
+    }
+
     /// Accepts the connection of the peer, if it has not connected yet. The listener is closed after that, and no other
     /// peer can connect.
     ///
@@ -24,9 +64,9 @@ impl Peer {
     ///
     /// The error of the system.
     fn meet(&mut self) -> io::Result<()> {
-        if let Peer::Awaited(listener) = self {
+        if let Socket::Awaited(listener) = &self.socket {
             let (stream, _) = listener.accept()?;
-            *self = Peer::Here(stream);
+            self.socket = Socket::Here(stream);
         }
         Ok(())
     }
@@ -35,9 +75,9 @@ impl Peer {
 impl Read for Peer {
     fn read(&mut self, buf: &mut [u8]) -> io::Result<usize> {
         self.meet()?;
-        match self {
-            Peer::Here(stream) => stream.read(buf),
-            Peer::Awaited(_) => Err(io::Error::from(ErrorKind::WouldBlock)),
+        match &mut self.socket {
+            Socket::Here(stream) => stream.read(buf),
+            Socket::Awaited(_) => Err(io::Error::from(ErrorKind::WouldBlock)),
         }
     }
 }
@@ -45,9 +85,9 @@ impl Read for Peer {
 impl Write for Peer {
     fn write(&mut self, buf: &[u8]) -> io::Result<usize> {
         self.meet()?;
-        match self {
-            Peer::Here(stream) => stream.write(buf),
-            Peer::Awaited(_) => Err(io::Error::from(ErrorKind::WouldBlock)),
+        match &mut self.socket {
+            Socket::Here(stream) => stream.write(buf),
+            Socket::Awaited(_) => Err(io::Error::from(ErrorKind::WouldBlock)),
         }
     }
 

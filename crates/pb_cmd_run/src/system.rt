@@ -119,12 +119,17 @@ impl<R: Files<File = File> + Net> Openings for System<'_, R> {
         open_input(self.rt, path)
     }
 
-    fn connect(&mut self, path: &str) -> io::Result<Peer> {
+    fn connect(&mut self, path: &str, stays: bool) -> io::Result<Peer> {
         let stream = UnixStream::connect(self.rt, path)?;
-        Ok(Peer::Here(stream))
+        let path = if stays {
+            Some(Text::from_string(String::from_str(self.alloc, path)?))
+        } else {
+            None
+        };
+        Ok(Peer::here(stream, path))
     }
 
-    fn listen(&mut self, path: &str) -> io::Result<Peer> {
+    fn listen(&mut self, path: &str, _stays: bool) -> io::Result<Peer> {
         let kept = String::from_str(self.alloc, path)?;
         self.sockets.push(SocketFile {
             path: Text::from_string(kept),
@@ -134,7 +139,7 @@ impl<R: Files<File = File> + Net> Openings for System<'_, R> {
         if let Some(last) = self.sockets.last_mut() {
             last.node = node_at(self.rt, path);
         }
-        Ok(Peer::Awaited(listener))
+        Ok(Peer::awaited(listener))
     }
 
     fn open_write(&mut self, path: &str) -> io::Result<Output> {

@@ -14,6 +14,7 @@ mod lingering;
 mod lossless;
 mod lost;
 mod memory;
+mod one_way;
 mod openings;
 mod peers;
 mod pipes;
@@ -31,7 +32,7 @@ use pb_run::{Gate, Go};
 use std::alloc::{AllocError, Global};
 use std::fs::{File, Files};
 use std::io::Write;
-use std::net::Net;
+use std::net::{Net, TcpListener, TcpStream};
 use std::process::Abort;
 use std::sync::atomic::{AtomicU64, Ordering};
 use std::sync::{Arc, Wait};
@@ -127,7 +128,12 @@ fn carry<R, W: Write, E: Write>(
     errors: &mut E,
 ) -> Result<Told, AllocError>
 where
-    R: Files<File = File> + Net + Threads + Wait + Clock + Sync,
+    R: Files<File = File>
+        + Net<Listener = TcpListener, Stream = TcpStream>
+        + Threads
+        + Wait
+        + Clock
+        + Sync,
     ensures { IfOk result (λ told. manner.strictness ≡ strict →
         IfOk told.result (λ status. status ≡ 0 → HasCarriedAll file.now)) }
 {
@@ -168,7 +174,12 @@ fn run_past<R, W: Write, E: Write>(
     errors: &mut E,
 ) -> Result<Told, AllocError>
 where
-    R: Files<File = File> + Net + Threads + Wait + Clock + Sync,
+    R: Files<File = File>
+        + Net<Listener = TcpListener, Stream = TcpStream>
+        + Threads
+        + Wait
+        + Clock
+        + Sync,
 {
     let file = joined(alloc, parts)?;
     carry(rt, alloc, file.as_str(), manner, door, writer, errors)
@@ -184,7 +195,12 @@ fn run<R, W: Write, E: Write>(
     errors: &mut E,
 ) -> Result<Told, AllocError>
 where
-    R: Files<File = File> + Net + Threads + Wait + Clock + Sync,
+    R: Files<File = File>
+        + Net<Listener = TcpListener, Stream = TcpStream>
+        + Threads
+        + Wait
+        + Clock
+        + Sync,
 {
     let door = Door::new();
     run_past(rt, alloc, parts, manner, &door, writer, errors)
@@ -207,7 +223,13 @@ fn check_under<R>(
     remarks: &'static str,
 ) -> Result<(), Fail>
 where
-    R: Files<File = File> + Net + Threads + Wait + Clock + Sync + Abort,
+    R: Files<File = File>
+        + Net<Listener = TcpListener, Stream = TcpStream>
+        + Threads
+        + Wait
+        + Clock
+        + Sync
+        + Abort,
 {
     let manner = Manner {
         strictness,
@@ -224,7 +246,13 @@ where
 /// Asserts the result and the report of a row's network in a lenient run, without remarks.
 fn check<R>(rt: &R, alloc: Global, row: &Row) -> Result<(), Fail>
 where
-    R: Files<File = File> + Net + Threads + Wait + Clock + Sync + Abort,
+    R: Files<File = File>
+        + Net<Listener = TcpListener, Stream = TcpStream>
+        + Threads
+        + Wait
+        + Clock
+        + Sync
+        + Abort,
 {
     check_under(rt, alloc, row, Strictness::Lenient, "")
 }

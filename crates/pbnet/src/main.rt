@@ -41,7 +41,7 @@ use standard::occupy_closed;
 use std::alloc::{AllocError, Global};
 use std::fs::{File, Files};
 use std::io::{ErrorKind, IsTerminal, Read, Write};
-use std::net::Net;
+use std::net::{Net, TcpListener, TcpStream};
 use std::process::ExitCode;
 use std::sync::{Arc, Wait};
 use std::thread::Threads;
@@ -183,7 +183,15 @@ fn new_traffic(alloc: Global) -> Result<Arc<Traffic, Global>, AllocError> {
 /// reported on `errors`: losses, paths that could not be used, and warnings. Returns the exit status.
 fn run<R, E: Write>(rt: &R, options: &RunOptions, shown: Shown, errors: &mut E) -> ExitCode
 where
-    R: Files<File = File> + Net + Threads + Wait + Clock + Print + Eprint + AllocGlobal + Sync,
+    R: Files<File = File>
+        + Net<Listener = TcpListener, Stream = TcpStream>
+        + Threads
+        + Wait
+        + Clock
+        + Print
+        + Eprint
+        + AllocGlobal
+        + Sync,
 {
     let mut out = Output::new(rt, options.format, head("run", options.path.as_str()));
     let mut noted = Noted::new(rt.alloc(), errors);
@@ -202,7 +210,14 @@ fn run_on<R, W: Write, E: Write>(
     errors: &mut E,
 ) -> ExitCode
 where
-    R: Files<File = File> + Net + Threads + Wait + Clock + Eprint + AllocGlobal + Sync,
+    R: Files<File = File>
+        + Net<Listener = TcpListener, Stream = TcpStream>
+        + Threads
+        + Wait
+        + Clock
+        + Eprint
+        + AllocGlobal
+        + Sync,
 {
     let file = match contents(rt, options.path.as_str(), out) {
         Ok(file) => file,

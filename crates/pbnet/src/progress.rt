@@ -1,6 +1,6 @@
 //! The progress of `run`, and the stop after `--seconds`.
 
-use pb_cmd_run::{Opening, RunProgress, Traffic};
+use pb_cmd_run::{Opening, PeerChange, RunProgress, Traffic};
 use pb_lan::Place;
 use pb_run::{Gate, Go};
 use std::alloc::Global;
@@ -8,7 +8,7 @@ use std::sync::Arc;
 use std::sync::atomic::{AtomicU64, Ordering};
 use std::time::{Clock, Duration};
 
-/// The turns of the worker of the first bridge between two looks at the clock.
+/// The turns of the worker of the first bridge between two looks at the clock, while it has something to do.
 const LOOK: u64 = 64;
 
 /// How the progress of a run is reported on standard error.
@@ -111,6 +111,15 @@ impl<R: Clock + Eprint + Sync> Gate for RunMonitor<'_, R> {
         Go::Go
     }
 
+    /// Returns whether a worker takes its next turn though it finds nothing to do. That of the first bridge reads the
+    /// clock each time.
+    fn pass_when_idle(&self, place: Place, _turn: u64) -> Go {
+        if place == Place::Bridge(1) {
+            return self.look();
+        }
+        Go::Go
+    }
+
     fn lets_sleep(&self, _place: Place) -> bool {
         true
     }
@@ -135,5 +144,23 @@ impl<R: Clock + Eprint + Sync> RunProgress for RunMonitor<'_, R> {
         if self.lines.swap(0, Ordering::SeqCst) != 0 {
             let _ = eprintln!(self.rt; "");
         }
+    }
+
+    /// Reports on a line of its own that the peer of a port came or left.
+    fn peer(&self, port: &str, change: PeerChange) {
+        self.close();
+        let _ = match change {
+            PeerChange::Connected => eprintln!(self.rt; "port {port}: peer connected"),
+            PeerChange::Left {
+                entered,
+                left,
+                dropped,
+            } => {
+                let frames = if entered == 1 { "frame" } else { "frames" };
+                eprintln!(self.rt;
+                    "port {port}: peer left: {entered} {frames} in, {left} out, {dropped} dropped"
+                )
+            }
+        };
     }
 }

@@ -43,8 +43,8 @@ pub(crate) fn tell_survivals<R: Files + Threads + Clock + Print + Eprint + Alloc
     }
 }
 
-/// Prints the document of a report on a network with nothing down at the start, if its form is not text. Returns the exit
-/// status of the command.
+/// Prints the document of a report on a network with nothing down at the start, if its form is not text. Returns the
+/// exit status of the command.
 fn end_calm<R: Print + AllocGlobal>(out: Output<'_, R>, status: ExitCode) -> ExitCode {
     out.end(&SURVIVE, Some(&FAILURES), status)
 }

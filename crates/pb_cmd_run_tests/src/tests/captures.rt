@@ -105,8 +105,7 @@ name = "shop"
 bridge = "Lakeside"
 port = 3
 service = "internet"
-kind = "capture"
-read = "examples/captures/none.pcap"
+kind = "record"
 write = "out/shop.pcap"
 
 [[port]]
@@ -114,8 +113,7 @@ name = "hotel"
 bridge = "Airport"
 port = 3
 service = "internet"
-kind = "capture"
-read = "examples/captures/none.pcap"
+kind = "record"
 write = "out/hotel.pcap"
 
 [[port]]
@@ -124,8 +122,7 @@ bridge = "Centre"
 port = 4
 service = "voice"
 pcp = 5
-kind = "capture"
-read = "examples/captures/none.pcap"
+kind = "record"
 write = "out/exchange.pcap"
 
 [[port]]
@@ -134,8 +131,7 @@ bridge = "Station"
 port = 4
 service = "voice"
 pcp = 5
-kind = "capture"
-read = "examples/captures/none.pcap"
+kind = "record"
 write = "out/office.pcap"
 
 [[port]]
@@ -152,8 +148,7 @@ name = "desk"
 bridge = "Campus"
 port = 5
 service = "surveillance"
-kind = "capture"
-read = "examples/captures/none.pcap"
+kind = "record"
 write = "out/desk.pcap"
 "#;
 
@@ -203,7 +198,6 @@ const ROW: Row = Row {
 
 /// The captures that are read.
 const READ: Contents = &[
-    ("examples/captures/none.pcap", NO_FRAMES),
     ("examples/captures/provider.pcap", PROVIDER),
     ("examples/captures/camera.pcap", CAMERA),
 ];

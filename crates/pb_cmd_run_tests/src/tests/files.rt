@@ -6,17 +6,18 @@ use super::plans::{
     UNMADE,
 };
 use super::sheet::Sheet;
-use super::{Door, Manner, NetworkFault, PLAIN, Row, Told, check, check_under, run, run_past};
+use super::{Door, Manner, NetworkFault, PLAIN, Row, Told, check_under, run, run_past};
 use pb_cmd_run::Strictness;
 use std::fs;
 use std::fs::Files;
 use std::os::unix::fs::symlink;
 use std::test::Fail;
 
-/// The captures that ports P2 and P1 read, the result, and the capture that P1 writes.
+/// The captures that ports P2 and P1 read, the result, its remarks, and the capture that P1 writes.
 struct Captures {
     read: [&'static [u8]; 2],
     row: Row,
+    remarks: &'static str,
     wrote: &'static [u8],
 }
 
@@ -34,6 +35,7 @@ const CAPTURE_ROWS: &[Captures] = &[
             report: "ended drained\nport P1 entered 0 left 1 filtered 0\nport P2 entered 1 left 0 filtered 0\n\
                 port P3 entered 0 left 1 filtered 0\nforest yes\n",
         },
+        remarks: "",
         wrote: ONE_FRAME,
     },
     Captures {
@@ -48,6 +50,7 @@ const CAPTURE_ROWS: &[Captures] = &[
             report: "ended stopped\nport P1 entered 0 left 0 filtered 0\nport P2 entered 0 left 0 filtered 0\n\
                 port P3 entered 0 left 0 filtered 0\nforest yes\nfault: port P2 4\nfault: port P1 1\n",
         },
+        remarks: "port P2: input ends within a header, record or frame\nport P1: not a capture\n",
         wrote: NO_FRAMES,
     },
     Captures {
@@ -62,6 +65,7 @@ const CAPTURE_ROWS: &[Captures] = &[
             report: "ended stopped\nport P1 entered 0 left 1 filtered 0\nport P2 entered 1 left 0 filtered 0\n\
                 port P3 entered 0 left 1 filtered 0\nforest yes\nfault: port P1 4\n",
         },
+        remarks: "port P1: input ends within a header, record or frame\n",
         wrote: ONE_FRAME,
     },
 ];
@@ -72,7 +76,13 @@ fn captures_are_carried_and_their_faults_told(rt: HostRuntime) -> Result<(), Fai
     for captures in CAPTURE_ROWS {
         let [first, second] = captures.read;
         make(&rt, &[("p2.in", first), ("p1.in", second)])?;
-        check(&rt, rt.alloc(), &captures.row)?;
+        check_under(
+            &rt,
+            rt.alloc(),
+            &captures.row,
+            Strictness::Lenient,
+            captures.remarks,
+        )?;
         assert!(rt;
             has(&rt, "p1.out", captures.wrote),
             "{}",
@@ -112,7 +122,7 @@ fn pcapng_is_told(rt: HostRuntime) -> Result<(), Fail> {
     enter(&rt, rt.process())?;
     make(&rt, PCAPNG_FILES)?;
     let remarks = "error: port P2: cannot read p2.in: it is a pcapng file\n\
-        hint: convert it to pcap by `editcap -F pcap`\n";
+        hint: convert it to pcap by `editcap -F pcap`\nport P2: not a capture\nport P1: not a capture\n";
     check_under(&rt, rt.alloc(), &PCAPNG, Strictness::Lenient, remarks)?;
     leave(&rt, rt.process())?;
     Ok(())

@@ -7,7 +7,7 @@ use super::{Door, Manner, NetworkFault, PLAIN, Told, carry};
 use std::alloc::{AllocError, Global};
 use std::fs::{File, Files};
 use std::io::{ErrorKind, Read};
-use std::net::{Net, Shutdown};
+use std::net::{Net, Shutdown, TcpListener, TcpStream};
 use std::os::unix::net::{UnixListener, UnixStream};
 use std::sync::Wait;
 use std::test::Fail;
@@ -102,7 +102,12 @@ fn is_remark(errors: &[u8]) -> bool {
 /// Runs the busy plan, whose ports may write for so many milliseconds after the run.
 fn come_of<R>(rt: &R, alloc: Global, file: &str, linger: u32, listener: UnixListener) -> Came
 where
-    R: Files<File = File> + Net + Threads + Wait + Clock + Sync,
+    R: Files<File = File>
+        + Net<Listener = TcpListener, Stream = TcpStream>
+        + Threads
+        + Wait
+        + Clock
+        + Sync,
 {
     let door = Door::new();
     let manner = Manner { linger, ..PLAIN };

@@ -55,13 +55,13 @@ impl Openings for Desk {
         Ok(())
     }
 
-    fn connect(&mut self, path: &str) -> io::Result<()> {
+    fn connect(&mut self, path: &str, _stays: bool) -> io::Result<()> {
         let text = self.text(path)?;
         self.deeds.push(Deed::Connect(text))?;
         Ok(())
     }
 
-    fn listen(&mut self, path: &str) -> io::Result<()> {
+    fn listen(&mut self, path: &str, _stays: bool) -> io::Result<()> {
         let text = self.text(path)?;
         self.deeds.push(Deed::Listen(text))?;
         Ok(())
@@ -92,6 +92,8 @@ impl Openings for Desk {
 enum Kind {
     Memory,
     Capture(&'static str, &'static str),
+    Record(&'static str),
+    Replay(&'static str),
     Socket(&'static str),
     Listener(&'static str),
 }
@@ -111,10 +113,29 @@ fn capture(alloc: Global, read: &str, write: &str) -> Result<PortSpec, AllocErro
     })
 }
 
+/// Returns a port that writes a capture.
+fn record(alloc: Global, write: &str) -> Result<PortSpec, AllocError> {
+    Ok(PortSpec::Record {
+        write: text(alloc, write)?,
+        stamp: Stamp::Ticks,
+    })
+}
+
+/// Returns a port that reads a capture.
+fn replay(alloc: Global, read: &str) -> Result<PortSpec, AllocError> {
+    Ok(PortSpec::Replay {
+        read: text(alloc, read)?,
+    })
+}
+
 /// Returns a port over a socket.
 fn socket(alloc: Global, path: &str, listens: bool) -> Result<PortSpec, AllocError> {
     let path = text(alloc, path)?;
-    Ok(PortSpec::Socket { path, listens })
+    Ok(PortSpec::Socket {
+        path,
+        listens,
+        stays: false,
+    })
 }
 
 /// Returns a port of a row.
@@ -122,6 +143,8 @@ fn spec_of(alloc: Global, kind: Kind) -> Result<PortSpec, AllocError> {
     match kind {
         Kind::Memory => Ok(PortSpec::Memory(Seq::from_vec(Vec::<Bytes>::new(alloc)))),
         Kind::Capture(read, write) => capture(alloc, read, write),
+        Kind::Record(write) => record(alloc, write),
+        Kind::Replay(read) => replay(alloc, read),
         Kind::Socket(path) => socket(alloc, path, false),
         Kind::Listener(path) => socket(alloc, path, true),
     }
@@ -342,6 +365,40 @@ const ROWS: &[Row] = &[
         done: &[Done::Read("plan"), Done::Write("c"), Done::Empty("c")],
         end: End::Open(1),
         forgotten: 0,
+    },
+    // Of two ports over one capture each, one reads it and the other writes it.
+    Row {
+        kinds: &[Kind::Record("w"), Kind::Replay("r")],
+        missing: "",
+        stuck: "",
+        done: &[Done::Read("r"), Done::Write("w"), Done::Empty("w")],
+        end: End::Open(2),
+        forgotten: 0,
+    },
+    Row {
+        kinds: &[Kind::Record("c"), Kind::Replay("c")],
+        missing: "",
+        stuck: "",
+        done: &[],
+        end: End::Shared("c", 0, FileUser::Reader(1)),
+        forgotten: 0,
+    },
+    Row {
+        kinds: &[Kind::Record("c"), Kind::Record("c")],
+        missing: "",
+        stuck: "",
+        done: &[],
+        end: End::Shared("c", 1, FileUser::Writer(0)),
+        forgotten: 0,
+    },
+    // The first output is closed again, since the second can't be made.
+    Row {
+        kinds: &[Kind::Record("a"), Kind::Record("b")],
+        missing: "b",
+        stuck: "",
+        done: &[Done::Write("a")],
+        end: End::Unopened(1, "b"),
+        forgotten: 1,
     },
     // A socket is made in the same pass in which others are connected to.
     Row {

@@ -7,6 +7,6 @@ use Rattle.pb_cmd_run.proofs.outside.ports_of.Given as goal
 abbrev pub invariant-loop-port : goal.invariant-loop-port
 invariant-loop-port l = record {
   count : vec_len l.ports ≡ length l.yielded;
-  scripts : map (λ w. script_at w.port) l.ports.items ++ map (λ port. (shown port).0) (into_iter_items l.port-iterator)
-      ≡ map (λ port. (shown port).0) (into_iter_items l.initial.port-iterator);
+  scripts : map (λ w. script_at w.port) l.ports.items ++ map (λ port. (shown port).frames) (into_iter_items l.port-iterator)
+      ≡ map (λ port. (shown port).frames) (into_iter_items l.initial.port-iterator);
 }

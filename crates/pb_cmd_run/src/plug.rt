@@ -1,0 +1,49 @@
+//! Makes the control socket of a run.
+
+ghost use Rattle.std.specs.Prelude.{◌≡◌, IfErr};
+
+use crate::network::show;
+use crate::network_fault::NetworkFault;
+use pb_control_socket::Control;
+use pb_run_control::Steering;
+use std::alloc::Global;
+use std::fs::Files;
+use std::io;
+use std::io::Write;
+use std::net::Net;
+
+/// Writes a line to `errors` that the control socket can't be made.
+fn show_unmade<E: Write>(alloc: Global, path: &str, error: &io::Error, errors: &mut E) {
+    if let Ok(text) = format!(in alloc; "error: cannot create control socket {path}: {error}\n") {
+        show(text.as_str(), errors);
+    }
+}
+
+/// Makes the control socket of a run, if the settings ask for one.
+///
+/// # Errors
+///
+/// `Path` if it can't be made, with a line in `errors`.
+pub(crate) fn plug<R: Files + Net, G, E: Write>(
+    rt: &R,
+    alloc: Global,
+    path: Option<&str>,
+    steering: &Steering<'_, G>,
+    errors: &mut E,
+) -> Result<(), NetworkFault>
+    ensures { IfErr result (λ e. e ≡ NetworkFault.Path) }
+{
+    let Some(path) = path else {
+        return Ok(());
+    };
+    match Control::open(rt, alloc, path) {
+        Ok(control) => {
+            steering.plug(control);
+            Ok(())
+        }
+        Err(e) => {
+            show_unmade(alloc, path, &e, errors);
+            Err(NetworkFault::Path)
+        }
+    }
+}

@@ -1,0 +1,88 @@
+//! The faults of ports in words.
+
+ghost use Rattle.std.specs.Prelude.{◌≡◌, ◌++◌, length, string_bytes, OnOk};
+ghost use Rattle.std.specs.Io.KnownBytes.{Appends};
+ghost use Rattle.pb_cmd_run.specs.PortFaults.{words_of, words_line, words_at, words_lines};
+
+use pb_frame::Memory;
+use pb_lan::{CustomerPlan, Plan};
+use pb_messages::{CommandFault, write_whole};
+use pb_port::PortFault;
+use pb_run::{Last, Ran};
+use std::alloc::Global;
+use std::io::Write;
+
+/// Returns the words for a fault.
+fn words_of(fault: PortFault) -> &'static str
+    ensures { result.now ≡ words_of fault }
+{
+    match fault {
+        PortFault::Magic => "not a capture",
+        PortFault::Version => "capture version is not 2.4",
+        PortFault::LinkType => "link type of the capture is not Ethernet",
+        PortFault::Truncated => "input ends within a header, record or frame",
+        PortFault::Oversize => "record of more than 262,144 octets",
+        PortFault::Read => "read failed",
+        PortFault::Write => "write failed",
+        PortFault::Memory => "an allocation failed",
+    }
+}
+
+/// Appends the line with a port's name and its fault.
+fn put_words(out: &mut String, name: &str, fault: PortFault) -> Result<(), Memory>
+    ensures { OnOk result (string_bytes out.new ≡ string_bytes out.old ++ words_line name.now fault) }
+{
+    let words = words_of(fault);
+    writeln!(out, "port {name}: {words}")?;
+    Ok(())
+}
+
+/// Appends the line for the newest poll of a port, if that was a fault.
+fn put_words_at(out: &mut String, name: &str, last: Last) -> Result<(), Memory>
+    ensures { OnOk result (string_bytes out.new ≡ string_bytes out.old ++ words_at name.now last) }
+{
+    match last {
+        Last::Fault(fault) => put_words(out, name, fault),
+        Last::More | Last::End => Ok(()),
+    }
+}
+
+/// Appends a line for each customer port whose newest poll was a fault.
+fn put_all_words(out: &mut String, customers: &[CustomerPlan], lasts: &[Last]) -> Result<(), Memory>
+    requires { length lasts.now ≡ length customers.now }
+    ensures { OnOk result (string_bytes out.new ≡ string_bytes out.old ++ words_lines customers.now lasts.now) }
+{
+    for (index, customer) in customers.iter().enumerate() {
+        put_words_at(out, customer.name.as_str(), lasts[index])?;
+    }
+    Ok(())
+}
+
+/// Writes `port NAME: WORDS` for each customer port whose newest poll was a fault, in the order of the plan, by one
+/// call of `write_all`.
+///
+/// # Errors
+///
+/// `Write` if the write failed, `Memory` if an allocation failed.
+pub(crate) fn write_port_faults<W: Write>(
+    alloc: Global,
+    customers: &[CustomerPlan],
+    lasts: &[Last],
+    writer: &mut W,
+) -> Result<(), CommandFault>
+    requires { length lasts.now ≡ length customers.now }
+    ensures { OnOk result (Appends (W.contents writer.old) (W.contents writer.new)
+        (words_lines customers.now lasts.now)) }
+{
+    let mut out = String::new(alloc);
+    put_all_words(&mut out, customers, lasts)?;
+    write_whole(writer, out.as_bytes())
+}
+
+/// Writes the lines of [`write_port_faults`] after a run. A failed write or allocation is ignored.
+pub(crate) fn show_port_faults<E: Write>(alloc: Global, plan: &Plan, ran: &Ran, errors: &mut E)
+    requires { length ran.now.last.items ≡ length plan.now.customers }
+{
+    let customers = plan.customers.as_slice();
+    let _ = write_port_faults(alloc, customers, ran.last.as_slice(), errors);
+}
