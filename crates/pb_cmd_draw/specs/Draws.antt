@@ -3,15 +3,17 @@ use Rattle.std.specs.Prelude.{◌≡◌, ◌⊎◌, ℕ, Bool, true, false, List
 use Rattle.std.specs.Borrow.{Bor}
 use Rattle.std.specs.Io.KnownBytes.{Appends}
 use Rattle.std.specs.declared.option.Option.{Option}
-use Rattle.pb_converge.specs.Falls.{HaveFallen, IsRefused}
+use Rattle.pb_converge.specs.Falls.{HaveFallen, IsRefused, fresh}
 use Rattle.pb_lan.specs.LastShapes.{last_shape}
+use Rattle.pb_lan.specs.Records.{IsLawfulRecord}
 use Rattle.pb_lan.specs.declared.plan.Plan.{Plan}
 use Rattle.pb_lan.specs.declared.shape.Shape.{Shape}
 use Rattle.pb_names.specs.Numbers.{service_named}
 use Rattle.pb_net.specs.Answers.{NetView}
+use Rattle.pb_relay.specs.Protocol.{spanning_tree}
 use Rattle.pb_report.specs.PlanFiles.{IsToldBy}
 use Rattle.pb_report.specs.Refusals.{PrintsRefusal}
-use Rattle.pb_converge.specs.Drives.{HasRested}
+use Rattle.pb_converge.specs.Drives.{HasRested, ReachesLimit}
 use Rattle.pb_converge.specs.declared.rest.Rest.{Rest}
 use Rattle.pb_cmd_draw.specs.Dot.{dot_text}
 use Rattle.pb_draw_layout.specs.Scenes.{IsSceneOf}
@@ -44,10 +46,12 @@ pub record IsPictureOf (plan : Plan) (shape : Shape) (chosen : Option ℕ) (form
   pub is_scene : IsSceneOf plan shape chosen scene
   pub text_is : text ≡ picture_text format plan scene
 
--- each bridge ticks at most so many times, and the picture has the states at the end
+-- each bridge ticks at most so many times, and the picture has the states at the end, which are those of a lawful record
 pub record IsDrawingFrom (plan : Plan) (asked : Asked) (fallen : NetView) (rest : Rest) (text : List ℕ) : Type 0 where
   pub last : NetView
   pub rested : HasRested asked.ticks 1000000000 rest fallen last
+  pub planned : last.plan ≡ plan
+  pub lawful : IsLawfulRecord spanning_tree plan last.rec
   pub picture : IsPictureOf plan (last_shape plan last.rec) (chosen_of plan asked.service) asked.format text
 
 -- what the names disable is disabled first
@@ -75,3 +79,7 @@ pub record HasWritten (file : List ℕ) (asked : Asked) (end : DrawEnd) (before 
 -- what the command has written: the picture, or the rule that the file breaks
 abbrev pub HasTold : List ℕ → Asked → DrawEnd → Option (List ℕ) → Option (List ℕ) → Type 0
 HasTold file asked end before after = HasWritten file asked end before after ⊎ ((end ≡ Refused) × PrintsRefusal file before after)
+
+-- the network of the plan in the file reaches the limit of steps of a place, or a billion events
+abbrev pub RunsIntoLimit : List ℕ → Type 0
+RunsIntoLimit file = (plan : Plan) × IsToldBy file plan × ReachesLimit 1000000000 (fresh plan)

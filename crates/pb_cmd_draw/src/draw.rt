@@ -2,15 +2,18 @@
 
 ghost use Rattle.std.specs.Prelude.{◌≡◌, ◌≢◌, ◌++◌, List, ℕ, true, string_bytes, IfOk, IfErr, OnOk};
 ghost use Rattle.std.specs.Io.KnownBytes.{Appends, Keeps};
+ghost use Rattle.pb_converge.specs.Drives.{IsCaused, ReachesLimit};
+ghost use Rattle.pb_converge.specs.Falls.{fresh};
 ghost use Rattle.pb_lan.specs.LastShapes.{last_shape};
 ghost use Rattle.pb_lan.specs.Plans.{IsSound};
 ghost use Rattle.pb_cmd_draw.specs.Draws.{is_found, chosen_of, IsPictureOf, IsDrawingFrom, HasDrawn, HasTold};
+ghost use Rattle.pb_cmd_draw.specs.Draws.{RunsIntoLimit};
 
 use crate::asked::Asked;
 use crate::dot::put_dot;
 use crate::end::{DrawEnd, Format};
 use crate::svg::put_svg;
-use pb_converge::{Rest, falls, fresh, rests, shape_of};
+use pb_converge::{DriveFault, Rest, disables, fault_of, fresh, settle, shape_of};
 use pb_draw_layout::scene_of;
 use pb_frame::Memory;
 use pb_lan::{Plan, Record, Shape};
@@ -21,6 +24,9 @@ use pb_report::write_refusal;
 use pb_service::read_plan;
 use std::alloc::Global;
 use std::io::Write;
+
+/// The most events besides ticks until convergence.
+const MOST_EVENTS: u64 = 1_000_000_000;
 
 /// Checks whether the plan has the service to highlight, if one is requested.
 fn is_found(plan: &Plan, service: Option<&str>) -> bool
@@ -88,13 +94,14 @@ fn put_rested(
     plan: &Plan,
     mut net: Net,
     asked: &Asked<'_>,
-) -> Result<Rest, CommandFault>
+) -> Result<Rest, DriveFault>
     requires sound { IsSound plan.now }
     requires plan { net.plan ≡ plan.now }
-    ensures { IfOk result (λ rest. (text : List ℕ) × (string_bytes out.new ≡ string_bytes out.old ++ text)
+    ensures ok { IfOk result (λ rest. (text : List ℕ) × (string_bytes out.new ≡ string_bytes out.old ++ text)
         × IsDrawingFrom plan.now asked.now net rest text) }
+    ensures err { IfErr result (λ fault. IsCaused 1000000000 fault net) }
 {
-    let rest = rests(alloc, &mut net, plan, asked.ticks)?;
+    let rest = settle(alloc, &mut net, plan, asked.ticks, MOST_EVENTS)?;
     let chosen = chosen_of(plan, asked.service);
     put_last(alloc, out, plan, &net.finish(), chosen, asked.format)?;
     Ok(rest)
@@ -107,14 +114,15 @@ fn put_fallen(
     out: &mut String,
     plan: &Plan,
     asked: &Asked<'_>,
-) -> Result<DrawEnd, CommandFault>
+) -> Result<DrawEnd, DriveFault>
     requires sound { IsSound plan.now }
     requires found { is_found plan.now asked.now.service ≡ true }
-    ensures { IfOk result (λ end. (text : List ℕ) × (string_bytes out.new ≡ string_bytes out.old ++ text)
+    ensures ok { IfOk result (λ end. (text : List ℕ) × (string_bytes out.new ≡ string_bytes out.old ++ text)
         × HasDrawn plan.now asked.now end text) }
+    ensures err { IfErr result (λ fault. IsCaused 1000000000 fault (fresh plan.now)) }
 {
     let mut net = fresh(alloc, plan)?;
-    match falls(alloc, &mut net, plan, asked.downs)? {
+    match disables(alloc, &mut net, plan, asked.downs)? {
         Some(fault) => Ok(DrawEnd::NoDown(fault)),
         None => {
             let rest = put_rested(alloc, out, plan, net, asked)?;
@@ -129,10 +137,11 @@ fn put_drawing(
     out: &mut String,
     plan: &Plan,
     asked: &Asked<'_>,
-) -> Result<DrawEnd, CommandFault>
+) -> Result<DrawEnd, DriveFault>
     requires { IsSound plan.now }
-    ensures { IfOk result (λ end. (text : List ℕ) × (string_bytes out.new ≡ string_bytes out.old ++ text)
+    ensures ok { IfOk result (λ end. (text : List ℕ) × (string_bytes out.new ≡ string_bytes out.old ++ text)
         × HasDrawn plan.now asked.now end text) }
+    ensures err { IfErr result (λ fault. IsCaused 1000000000 fault (fresh plan.now)) }
 {
     if is_found(plan, asked.service) {
         put_fallen(alloc, out, plan, asked)
@@ -151,21 +160,28 @@ fn draw<W: Write>(
     requires { IsSound plan.now }
     ensures ok { IfOk result (λ end. (text : List ℕ) × Appends (W.contents writer.old) (W.contents writer.new) text
         × HasDrawn plan.now asked.now end text) }
+    ensures kinds { IfErr result (λ e. e ≢ CommandFault.Read) }
+    ensures steps { IfErr result (λ e. e ≡ CommandFault.Steps → ReachesLimit 1000000000 (fresh plan.now)) }
     ensures none { IfErr result (λ e. e ≢ CommandFault.Write → Keeps (W.contents writer.old) (W.contents writer.new)) }
 {
     let mut out = String::new(alloc);
-    let end = put_drawing(alloc, &mut out, plan, asked)?;
-    write_whole(writer, out.as_bytes())?;
-    Ok(end)
+    match put_drawing(alloc, &mut out, plan, asked) {
+        Ok(end) => {
+            write_whole(writer, out.as_bytes())?;
+            Ok(end)
+        }
+        Err(fault) => Err(fault_of(fault)),
+    }
 }
 
 /// Reads a plan file, disables links, bridges and ports, drives the bridges to convergence, and writes a picture of the
 /// network.
 ///
-/// Each of `asked.downs` names a link, a bridge, or a port to another bridge as `BRIDGE:PORT`, as [`falls`] describes.
-/// If the bridges run the rapid spanning tree (IEEE 802.1D-2004 clause 17), each takes at most `asked.ticks` ticks
-/// (seconds). The picture has the states at the end, converged or not, and `Drawn` has which. [`scene_of`] decides what
-/// is drawn, [`put_svg`] and [`put_dot`] how.
+/// Each of `asked.downs` names a link, a bridge, or a port to another bridge as `BRIDGE:PORT`, as [`disables`]
+/// describes. If the bridges run the rapid spanning tree (IEEE 802.1D-2004 clause 17), each takes at most `asked.ticks`
+/// ticks (seconds). The picture has the states at the end of a lawful record of that network, as [`Net::finish`]
+/// returns it, converged or not, and `Drawn` has which. [`scene_of`] decides what is drawn, [`put_svg`] and [`put_dot`]
+/// how.
 ///
 /// If the file is not a valid plan, the line `plan: N WORD` is written, as `check` prints it, and `Refused` is
 /// returned. `NoService` is returned if the plan lacks the service, and else `NoDown` if a name of `asked.downs` is
@@ -183,6 +199,8 @@ pub fn run_draw<W: Write>(
     writer: &mut W,
 ) -> Result<DrawEnd, CommandFault>
     ensures ok { IfOk result (λ end. HasTold file.now asked.now end (W.contents writer.old) (W.contents writer.new)) }
+    ensures kinds { IfErr result (λ e. e ≢ CommandFault.Read) }
+    ensures steps { IfErr result (λ e. e ≡ CommandFault.Steps → RunsIntoLimit file.now) }
     ensures none { IfErr result (λ e. e ≢ CommandFault.Write → Keeps (W.contents writer.old) (W.contents writer.new)) }
 {
     match read_plan(alloc, file) {

@@ -1,5 +1,5 @@
 use Rattle.std.proofs.Common.{inl}
-use Rattle.std.proofs.lemmas.Result.{IfOk-weaker}
+use Rattle.std.proofs.lemmas.Result.{IfErr-weaker, IfOk-weaker}
 use Rattle.pb_cmd_draw.proofs.draw.run_draw.Goals as goal
 
 pub returns-in-Ok-clause-ok : goal.returns-in-Ok-clause-ok
@@ -13,3 +13,9 @@ returns-in-Ok-clause-ok g c =
           d.1;
       drawn = d.2;
     })) c.draw.ensures.ok
+
+pub returns-in-Ok-clause-steps : goal.returns-in-Ok-clause-steps
+returns-in-Ok-clause-steps g c =
+    IfErr-weaker c.draw.result _ _
+    (λ e h is. (c.in-Ok.plan, record { specs = c.in-Ok._ports.items; told = c.in-Ok.ensures.plan }, h is))
+    c.draw.ensures.steps
