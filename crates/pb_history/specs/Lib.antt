@@ -5,3 +5,6 @@ pub mod Newest
 pub mod Losses
 pub mod CountLists
 pub mod Tallied
+pub mod Drops
+pub mod Memory
+pub mod Late

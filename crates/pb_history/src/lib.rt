@@ -7,7 +7,10 @@
 
 mod balance;
 mod cause_counts;
+mod drops;
 mod filtered;
+mod lacks;
+mod late;
 mod loss_counts;
 mod newest;
 mod passages;
@@ -19,6 +22,7 @@ mod tallies;
 mod tally;
 
 pub use cause_counts::CauseCounts;
+pub use drops::{NO_PORT, drop_number};
 pub use pb_frame::Memory;
 pub use shape::last_shape;
 pub use steps::Steps;

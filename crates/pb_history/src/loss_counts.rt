@@ -51,7 +51,7 @@ fn note_copies(copies: &mut PortCounts, step: &Step)
 
 /// Returns the ports at which a BPDU was not queued, with the causes.
 #[inline(always)]
-fn dropped_by(step: &Step) -> &[(u8, NoRoom)]
+pub(crate) fn dropped_by(step: &Step) -> &[(u8, NoRoom)]
     ensures { result.now ≡ dropped_by step.now }
 {
     match step {

@@ -33,7 +33,7 @@ impl Model for Newest {
 
 /// Returns what the spanning tree did to the bridge's ports in a step, if it ran.
 #[inline(always)]
-fn moved_by(step: &Step) -> Option<&Moved>
+pub(crate) fn moved_by(step: &Step) -> Option<&Moved>
     ensures { option_to_list (option_copied result) ≡ moved_of step.now }
 {
     match step {

@@ -1,6 +1,9 @@
 //! The tallies of all places of a network.
 
 ghost use Rattle.std.specs.Prelude.{◌≡◌, IfOk};
+ghost use Rattle.std.specs.List.{list_any};
+ghost use Rattle.pb_history.specs.Late.{changes_late};
+ghost use Rattle.pb_history.specs.Memory.{lacks_memory};
 ghost use Rattle.pb_history.specs.Tallied.{record_of};
 
 use crate::tally::Tally;
@@ -72,6 +75,22 @@ impl Tallies {
         ensures { result.now ≡ self.now.bridges }
     {
         self.bridges.as_slice()
+    }
+
+    /// Returns whether a port changed its state after its bridge had received a customer's frame. If none did, each
+    /// customer's frame was handled in the states that ports have after the record.
+    pub fn changed_late(&self) -> bool
+        ensures { result ≡ list_any changes_late self.now.bridges }
+    {
+        self.bridges.iter().any(|tally| tally.changed_late())
+    }
+
+    /// Returns whether an allocation failed in the course of a bridge's step: a frame was dropped, a copy or a BPDU was
+    /// not queued, or a source was not learnt for that.
+    pub fn lacked_memory(&self) -> bool
+        ensures { result ≡ list_any (λ steps. list_any lacks_memory steps) self.now.bridges }
+    {
+        self.bridges.iter().any(|tally| tally.lacked_memory())
     }
 
     /// Returns the tallies of the lanes. Link j has lane 2j-1 from a to b and lane 2j from b to a.

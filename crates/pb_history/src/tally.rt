@@ -1,24 +1,30 @@
 //! The counts of the steps of a place.
 
 ghost use Rattle.std.specs.Prelude.{◌≡◌, ◌≤◌, ◌<◌, ◌*◌, ◌^◌, [], ◌∷◌, ◌++◌, length, flat_map, unwrap_or};
-ghost use Rattle.std.specs.List.{count_by, sum_by};
+ghost use Rattle.std.specs.List.{count_by, list_any, sum_by};
 ghost use Rattle.pb_lan.specs.Shapes.{changed, changes_of};
 ghost use Rattle.pb_lan.specs.declared.shape.PortState.{PortState};
 ghost use Rattle.pb_history.specs.Draining.{gain, loss};
+ghost use Rattle.pb_history.specs.Drops.{is_dropped, goes_nowhere};
+ghost use Rattle.pb_history.specs.Late.{changes_late};
 ghost use Rattle.pb_history.specs.Losses.{refused_by, dropped_by, unlearnt_by, counts_at, counts_of};
+ghost use Rattle.pb_history.specs.Memory.{lacks_memory};
 ghost use Rattle.pb_history.specs.Passages.{is_poll, is_departure, is_gone, is_filtered, is_take, is_loss};
 
 use crate::balance::Balance;
 use crate::cause_counts::CauseCounts;
+use crate::drops::Drops;
 use crate::filtered::Filtered;
+use crate::lacks::Lacks;
+use crate::late::Late;
 use crate::loss_counts::LossCounts;
 use crate::newest::Newest;
 use crate::passages::Passages;
-use pb_lan::{PortState, Step};
+use pb_lan::{PortState, Reason, Step};
 use std::alloc::AllocError;
 use std::marker::Model;
 
-/// The counts of the steps of a place. It has less than 1,400 octets for any number of steps, and keeps no step.
+/// The counts of the steps of a place. It has less than 2,800 octets for any number of steps, and keeps no step.
 ///
 /// Contracts see the list of the steps.
 #[derive(Drop)]
@@ -28,6 +34,9 @@ pub struct Tally {
     newest: Newest,
     balance: Balance,
     losses: LossCounts,
+    drops: Drops,
+    late: Late,
+    lacks: Lacks,
 }
 
 impl Model for Tally {
@@ -39,7 +48,7 @@ impl Model for Tally {
     ghost view = { λ t. t.passages };
 
     ghost invariant = { λ t. (t.filtered ≡ t.passages) × (t.newest ≡ t.passages) × (t.balance ≡ t.passages)
-        × (t.losses ≡ t.passages) };
+        × (t.losses ≡ t.passages) × (t.drops ≡ t.passages) × (t.late ≡ t.passages) × (t.lacks ≡ t.passages) };
 }
 
 impl Tally {
@@ -53,6 +62,9 @@ impl Tally {
             newest: Newest::new(),
             balance: Balance::new(),
             losses: LossCounts::new(),
+            drops: Drops::new(),
+            late: Late::new(),
+            lacks: Lacks::new(),
         }
     }
 
@@ -77,6 +89,9 @@ impl Tally {
             newest: self.newest.copied(),
             balance: self.balance.copied(),
             losses: self.losses.copied(),
+            drops: self.drops.copied(),
+            late: self.late.copied(),
+            lacks: self.lacks.copied(),
         }
     }
 
@@ -91,6 +106,9 @@ impl Tally {
         self.newest.note(step);
         self.balance.note(step);
         self.losses.note(step);
+        self.drops.note(step);
+        self.late.note(step);
+        self.lacks.note(step);
     }
 
     /// Returns the number of steps.
@@ -142,6 +160,39 @@ impl Tally {
         ensures { result ≡ count_by (is_filtered port) self.now }
     {
         self.filtered.at(port)
+    }
+
+    /// Returns how many frames that a bridge's local port, 1 to 16, received were dropped for a reason (IEEE 802.1Q
+    /// clause 8.6). The frames to all reserved addresses are counted together, whatever octet the reason names.
+    pub fn dropped(&self, port: u8, reason: Reason) -> u64
+        requires { port ≤ 16 }
+        ensures { result ≡ count_by (is_dropped port reason) self.now }
+    {
+        self.drops.at(port, reason)
+    }
+
+    /// Returns how many frames that a bridge's local port, 1 to 16, received were relayed to no port: there was no other
+    /// Forwarding port of their VLAN, or none where their destination is.
+    pub fn relayed_nowhere(&self, port: u8) -> u64
+        requires { port ≤ 16 }
+        ensures { result ≡ count_by (goes_nowhere port) self.now }
+    {
+        self.drops.nowhere(port)
+    }
+
+    /// Returns whether a port of a bridge changed its state after the bridge had received a customer's frame.
+    pub fn changed_late(&self) -> bool
+        ensures { result ≡ changes_late self.now }
+    {
+        self.late.is_late()
+    }
+
+    /// Returns whether an allocation failed in the course of a step: a frame was dropped, a copy or a BPDU was not
+    /// queued, or a source was not learnt for that.
+    pub fn lacked_memory(&self) -> bool
+        ensures { result ≡ list_any lacks_memory self.now }
+    {
+        self.lacks.lacked()
     }
 
     /// Returns the newest state to which a step set a bridge's local port, 1 to 16, or `None` if no step set it.
