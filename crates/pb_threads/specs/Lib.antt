@@ -1,2 +1,3 @@
 pub mod Started
 pub mod Together
+pub mod Clocks

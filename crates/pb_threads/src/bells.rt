@@ -147,7 +147,7 @@ impl Bells {
         }
     }
 
-    /// Sleeps until a place's bell rings, at most this long, if its worker is drowsy, and makes it drowsy if it is awake.
+    /// Sleeps until a place's bell rings, at most this long, if its worker is drowsy. Makes it drowsy if it is awake.
     /// Returns whether it slept and no bell rang.
     pub(crate) fn doze<R: Wait>(&self, rt: &R, place: Place, time: Duration) -> bool {
         match self.bells.get(self.worker(place)) {

@@ -2,7 +2,7 @@
 
 use crate::bells::Bells;
 use crate::view::PortView;
-use pb_lan::Place;
+use pb_lan::{Place, Reason};
 
 /// The decision of a gate.
 #[derive(Clone, Copy, PartialEq, Eq, Debug)]
@@ -20,6 +20,15 @@ pub struct Wish {
     pub port: u8,
     /// Whether the port is to be enabled.
     pub up: bool,
+}
+
+/// What became of a received frame of which no port got a copy.
+#[derive(Clone, Copy, PartialEq, Eq, Debug)]
+pub enum Dropped {
+    /// A rule dropped it for this reason.
+    By(Reason),
+    /// It was relayed to no port.
+    Nowhere,
 }
 
 /// A gate that each worker passes before each of its turns.
@@ -40,9 +49,9 @@ pub trait Gate: Sync {
         None
     }
 
-    /// Checks whether the worker of a place may sleep until its bell rings, while nothing is to do. It wakes when a place
-    /// beside it takes a step, when its clock ticks, and after a second. Otherwise it passes the gate at least twice a
-    /// millisecond.
+    /// Checks whether the worker of a place may sleep until its bell rings, while nothing is to do. It wakes when a
+    /// place beside it takes a step, when its clock ticks, and after a second. Otherwise it passes the gate at least
+    /// twice a millisecond.
     fn lets_sleep(&self, _place: Place) -> bool {
         false
     }
@@ -65,6 +74,9 @@ pub trait Gate: Sync {
 
     /// Receives the number of copies of a frame that were lost at a place because its queue was full.
     fn refused(&self, _place: Place, _copies: u64) {}
+
+    /// Receives what became of a frame that a local port of a place received and no port got.
+    fn dropped(&self, _place: Place, _port: u8, _dropped: Dropped) {}
 
     /// Receives the role and the state of a local port of a place: of each port before the place's first turn, and
     /// after each turn that may have changed one.

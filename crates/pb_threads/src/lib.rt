@@ -15,7 +15,7 @@ mod view;
 mod words;
 
 pub use bells::Bells;
-pub use gate::{Gate, Go, Wish};
+pub use gate::{Dropped, Gate, Go, Wish};
 pub use threads::{Places, WorkFault, Worked, run_all};
 pub use ticks::Moment;
 pub use turns::{Finish, Turn, TurnStatus, Work};

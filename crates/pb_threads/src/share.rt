@@ -56,8 +56,8 @@ impl Share {
         self.spare = spare;
     }
 
-    /// Gives all of it back.
-    fn give_back<G: Gate>(&mut self, gate: &G, words: &Words) {
+    /// Gives all of it back. A worker does so before it sleeps.
+    pub(crate) fn give_back<G: Gate>(&mut self, gate: &G, words: &Words) {
         if self.spare > 0 {
             words.take(gate, self.spare);
             self.spare = 0;

@@ -239,8 +239,8 @@ fn verdict_of(have_begun: bool) -> Result<(), WorkFault>
 }
 
 /// Runs a worker for each place in a thread of its own, and joins them all. Workers sleep on the bells of the gate.
-/// `left` counts what there is to do at the start. Each turn reports how that count changes, and all workers end when it
-/// is 0.
+/// `left` counts what there is to do at the start. Each turn reports how that count changes, and all workers end when
+/// it is 0.
 ///
 /// Each place comes back with what it was given, and as it may be between turns. The verdict is `Memory` if an
 /// allocation failed before the workers were started, and `Spawn` if a thread could not be started. No worker takes a

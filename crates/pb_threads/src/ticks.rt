@@ -1,4 +1,7 @@
-//! The clocks of workers. No contract speaks of them: a tick is a step like any other.
+//! The clocks of workers. No contract of a worker speaks of them: a tick is a step like any other.
+
+ghost use Rattle.std.specs.Prelude.{◌≡◌, min};
+ghost use Rattle.pb_threads.specs.Clocks.{due_after};
 
 use pb_lan::Limits;
 use std::time::Clock;
@@ -34,6 +37,17 @@ fn millis<R: Clock>(rt: &R) -> Option<u64> {
     let time = rt.monotonic().ok()?;
     let whole = time.as_secs().saturating_mul(1_000);
     Some(whole.saturating_add(u64::from(time.subsec_millis())))
+}
+
+/// Returns the time of the tick after one that was due, by its time, the time now and the time between ticks.
+fn due_after(due: u64, now: u64, every: u64) -> u64
+    ensures { result ≡ min (due_after due now every) u64.MAX }
+{
+    let next = due.saturating_add(every);
+    if next < now {
+        return now.saturating_add(every);
+    }
+    next
 }
 
 impl Ticks {
@@ -107,7 +121,8 @@ impl Ticks {
         true
     }
 
-    /// Checks whether the next tick is due. A clock that is late catches up by one tick a turn.
+    /// Checks whether the next tick is due. A clock that is at most a tick late catches up. One that is later, as after
+    /// the process was stopped, ticks once and lets the other ticks go, so that nothing ages while nobody could send.
     fn is_late<R: Clock>(&mut self, rt: &R) -> bool {
         let Some(now) = millis(rt) else {
             return false;
@@ -115,7 +130,7 @@ impl Ticks {
         if now < self.due {
             return false;
         }
-        self.due = self.due.saturating_add(self.limits.tick_ms);
+        self.due = due_after(self.due, now, self.limits.tick_ms);
         true
     }
 }

@@ -5,7 +5,7 @@ ghost use Rattle.std.specs.declared.option.Option.{Option};
 ghost use Rattle.pb_threads.specs.declared.view.PortView.{PortView};
 ghost use Rattle.pb_threads.specs.Started.{IsBack};
 
-use crate::gate::{Gate, Go, Wish, ring_beside};
+use crate::gate::{Dropped, Gate, Go, Wish, ring_beside};
 use crate::share::Share;
 use crate::ticks::{Moment, Ticks};
 use crate::view::PortView;
@@ -42,6 +42,8 @@ pub struct Turn {
     pub fewer: u64,
     /// The number of copies of a frame that were lost because a queue was full.
     pub refused: u64,
+    /// What became of a received frame, if no port got a copy of it.
+    pub dropped: Option<Dropped>,
     /// The local port whose ring an item entered or left, or 0 if the place has no local ports or none did.
     pub port: u8,
     /// Whether the view of the place's ports may have changed.
@@ -55,6 +57,7 @@ impl Turn {
         more: 0,
         fewer: 0,
         refused: 0,
+        dropped: None,
         port: 0,
         has_stirred: false,
     };
@@ -129,11 +132,19 @@ const LONG: u64 = 1_000;
 /// The number of turns that a worker would take in a millisecond if it did not sleep longer than it has to.
 const TURNS: u64 = 2;
 
+/// The most idle turns in a row after which a worker yields the processor and does not sleep.
+const MOST_YIELDS: u32 = 64;
+
+/// The fewest such turns.
+const FEWEST_YIELDS: u32 = 8;
+
 /// The pace of a worker after a turn.
 #[derive(Clone, Copy)]
 struct Pace {
     /// The number of idle turns in a row.
     idle: u32,
+    /// The number of turns after the last sleep in which there was something to do.
+    done: u32,
     /// The number of the next turn, if it is greater than that of the last turn and one.
     next: u64,
     /// Whether the worker has slept, or sleeps after the next turn if that is idle.
@@ -141,12 +152,27 @@ struct Pace {
 }
 
 impl Pace {
-    /// The pace of a worker that has something to do.
-    const BUSY: Pace = Pace {
+    /// The pace of a worker that begins.
+    const START: Pace = Pace {
         idle: 0,
+        done: 0,
         next: 0,
         is_drowsy: false,
     };
+
+    /// Returns the pace after a turn in which there was something to do.
+    fn after_work(self) -> Pace {
+        Pace {
+            done: self.done.saturating_add(1),
+            ..Pace::START
+        }
+    }
+
+    /// Returns the number of idle turns in a row after which the worker may sleep until its bell rings. The more there
+    /// was to do after its last sleep, the longer it waits for more.
+    fn patience(self) -> u32 {
+        self.done.saturating_add(FEWEST_YIELDS).min(MOST_YIELDS)
+    }
 }
 
 /// Returns for how many milliseconds a worker may sleep until its bell rings. 0 if the place or the gate does not allow
@@ -160,22 +186,23 @@ fn sleep_time<T: Work, G: Gate, R: Clock>(rt: &R, owned: &T, gate: &G, ticks: &T
     ticks.until_tick(rt, if is_watched { SHORT } else { LONG })
 }
 
-/// Yields the processor after one of the first 64 idle turns in a row. Then sleeps: if the place and the gate allow it,
-/// until a bell rings or the clock ticks, else for half a millisecond. Returns the pace after that. The turns that pass
-/// in a whole sleep count.
+/// Rests after an idle turn: yields the processor after one of the first such turns in a row. Then sleeps: if the place
+/// and the gate allow it, until a bell rings or the clock ticks, else for half a millisecond. Returns the pace after
+/// that. The turns that pass in a whole sleep count.
 fn rest<T: Work, G: Gate, R: Wait + Clock>(
     rt: &R,
     owned: &T,
     gate: &G,
     ticks: &Ticks,
     turn: u64,
-    idle: u32,
+    last: Pace,
 ) -> Pace {
     let mut pace = Pace {
-        idle: idle.saturating_add(1),
-        ..Pace::BUSY
+        idle: last.idle.saturating_add(1),
+        done: last.done,
+        ..Pace::START
     };
-    if idle < 64 {
+    if last.idle < last.patience() {
         thread::yield_now();
         return pace;
     }
@@ -183,12 +210,14 @@ fn rest<T: Work, G: Gate, R: Wait + Clock>(
     match gate.bells() {
         Some(bells) if millis > 0 => {
             pace.is_drowsy = true;
+            pace.done = 0;
             if bells.doze(rt, owned.place(), Duration::from_millis(millis)) {
                 pace.next = turn.saturating_add(millis.saturating_mul(TURNS));
             }
         }
+        _ if last.idle < MOST_YIELDS => thread::yield_now(),
         _ => {
-            let micros = u64::from(idle).saturating_sub(60).min(500);
+            let micros = u64::from(last.idle).saturating_sub(60).min(500);
             thread::sleep(rt, Duration::from_micros(micros));
         }
     }
@@ -253,6 +282,16 @@ fn show_ports<T: Work, G: Gate>(owned: &T, gate: &G, place: Place) {
     }
 }
 
+/// Reports to the gate what was lost in a turn.
+fn report_losses<G: Gate>(gate: &G, place: Place, turned: &Turn) {
+    if turned.refused > 0 {
+        gate.refused(place, turned.refused);
+    }
+    if let Some(dropped) = turned.dropped {
+        gate.dropped(place, turned.port, dropped);
+    }
+}
+
 /// Takes turn after turn, at most `turns`, and returns the reason why there are no more.
 fn take_turns<T: Work, G: Gate, R: Wait + Clock>(
     rt: &R,
@@ -267,7 +306,7 @@ fn take_turns<T: Work, G: Gate, R: Wait + Clock>(
     ensures fits { T.fits owned.new }
 {
     let place = owned.place();
-    let (mut pace, mut share) = (Pace::BUSY, Share::new());
+    let (mut pace, mut share) = (Pace::START, Share::new());
     show_ports(owned, gate, place);
     for turn in 0..turns {
         if turn < pace.next {
@@ -278,9 +317,10 @@ fn take_turns<T: Work, G: Gate, R: Wait + Clock>(
         }
         let turned = take_turn(rt, owned, gate, place, ticks);
         share.count(gate, words, turned.more, turned.fewer);
-        if turned.refused > 0 {
-            gate.refused(place, turned.refused);
+        if pace.is_drowsy {
+            share.give_back(gate, words);
         }
+        report_losses(gate, place, &turned);
         if turned.has_stirred {
             show_ports(owned, gate, place);
         }
@@ -288,10 +328,10 @@ fn take_turns<T: Work, G: Gate, R: Wait + Clock>(
             return finish;
         }
         pace = match turned.status {
-            TurnStatus::Idle => rest(rt, owned, gate, ticks, turn, pace.idle),
+            TurnStatus::Idle => rest(rt, owned, gate, ticks, turn, pace),
             _ => {
                 ring_beside(gate, place, turned.port);
-                Pace::BUSY
+                pace.after_work()
             }
         };
     }

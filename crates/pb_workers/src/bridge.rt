@@ -30,7 +30,7 @@ use pb_frame::{Memory, index_of};
 use pb_lan::{Outcome, Place, Plan};
 use pb_relay::{Bridge, BridgeFault};
 use pb_ring::{Inlets, Outlets, Wiring};
-use pb_threads::{Finish, Moment, PortView, Turn, TurnStatus, Wish, Work};
+use pb_threads::{Dropped, Finish, Moment, PortView, Turn, TurnStatus, Wish, Work};
 use std::alloc::Global;
 
 /// A bridge of a plan with the rings at its local ports. It receives by one ring of a port and sends by the other. The
@@ -95,10 +95,12 @@ fn new_bridge(alloc: Global, plan: &Plan, number: u8, keeps: bool) -> Result<Bri
     }
 }
 
-/// The copies of a frame: how many were queued, and how many were lost because a queue was full.
+/// The copies of a frame: how many were queued, how many were lost because a queue was full, and what became of a frame
+/// for which no port was chosen.
 struct Copies {
     queued: u64,
     refused: u64,
+    dropped: Option<Dropped>,
 }
 
 /// Returns the copies of a received frame with this outcome.
@@ -110,11 +112,22 @@ fn copies_of(outcome: &Outcome) -> Copies {
             Copies {
                 queued: chosen.saturating_sub(refused) as u64,
                 refused: refused as u64,
+                dropped: if chosen == 0 {
+                    Some(Dropped::Nowhere)
+                } else {
+                    None
+                },
             }
         }
-        _ => Copies {
+        Outcome::Filtered(reason) => Copies {
             queued: 0,
             refused: 0,
+            dropped: Some(Dropped::By(*reason)),
+        },
+        Outcome::Heard => Copies {
+            queued: 0,
+            refused: 0,
+            dropped: None,
         },
     }
 }
@@ -122,12 +135,17 @@ fn copies_of(outcome: &Outcome) -> Copies {
 /// Returns the turn in which a frame with this outcome was received. A marked frame is finished at this bridge, and its
 /// queued copies are new.
 fn received(is_marked: bool, outcome: &Outcome) -> Turn {
-    let Copies { queued, refused } = copies_of(outcome);
+    let Copies {
+        queued,
+        refused,
+        dropped,
+    } = copies_of(outcome);
     Turn {
         status: TurnStatus::Done,
         more: if is_marked { queued } else { 0 },
         fewer: u64::from(is_marked),
         refused,
+        dropped,
         port: 0,
         has_stirred: matches!(outcome, Outcome::Heard),
     }

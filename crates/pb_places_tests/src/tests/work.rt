@@ -4,9 +4,10 @@ mod sleeping;
 
 ghost use Rattle.std.specs.Prelude.{◌==◌, Some, None, if◌then◌else◌};
 
-use pb_lan::{Limits, Place, PortState};
+use pb_lan::{Limits, Place, PortState, Reason};
 use pb_threads::{
-    Finish, Gate, Go, Moment, Places, PortView, Turn, TurnStatus, Wish, Work, Worked, run_all,
+    Dropped, Finish, Gate, Go, Moment, Places, PortView, Turn, TurnStatus, Wish, Work, Worked,
+    run_all,
 };
 use std::alloc::{AllocError, Global};
 use std::sync::atomic::{AtomicU64, Ordering};
@@ -70,6 +71,7 @@ impl Work for Desk {
             more: 0,
             fewer,
             refused: 2,
+            dropped: Some(Dropped::By(Reason::NotMember)),
             port: 1,
             has_stirred: moment.is_tick,
         }
@@ -292,11 +294,12 @@ fn a_gate_stops_the_workers(rt: HostRuntime) -> Result<(), Fail> {
 }
 
 /// A gate that wishes once of each bridge to enable its port 3, after its clock has ticked. It counts the refused
-/// copies and the shown views.
+/// copies, the dropped frames and the shown views.
 #[derive(Drop)]
 struct Wishing {
     given: AtomicU64,
     refused: AtomicU64,
+    dropped: AtomicU64,
     shown: AtomicU64,
 }
 
@@ -314,6 +317,12 @@ impl Gate for Wishing {
 
     fn refused(&self, _place: Place, copies: u64) {
         self.refused.fetch_add(copies, Ordering::SeqCst);
+    }
+
+    fn dropped(&self, _place: Place, port: u8, dropped: Dropped) {
+        if port == 1 && dropped == Dropped::By(Reason::NotMember) {
+            self.dropped.fetch_add(1, Ordering::SeqCst);
+        }
     }
 
     fn shows(&self, _place: Place, port: u8, view: PortView) {
@@ -334,6 +343,7 @@ fn wishes_take_the_place_of_turns(rt: HostRuntime) -> Result<(), Fail> {
     let gate = Wishing {
         given: AtomicU64::new(0),
         refused: AtomicU64::new(0),
+        dropped: AtomicU64::new(0),
         shown: AtomicU64::new(0),
     };
     let places = office(rt.alloc(), 20)?;
@@ -352,6 +362,7 @@ fn wishes_take_the_place_of_turns(rt: HostRuntime) -> Result<(), Fail> {
         gate.refused.load(Ordering::SeqCst),
         turns.saturating_mul(2)
     );
+    assert_eq!(rt; gate.dropped.load(Ordering::SeqCst), turns);
     assert_eq!(rt; gate.shown.load(Ordering::SeqCst), ticks.saturating_add(6));
     Ok(())
 }

@@ -67,8 +67,8 @@ fn limits_of(turns: u64, tick_ms: u64) -> Limits {
     }
 }
 
-/// Checks that workers end as soon as nothing is left, though some have nothing to do from the start and sleep, with and
-/// without a clock.
+/// Checks that workers end as soon as nothing is left, though some have nothing to do from the start and sleep, with
+/// and without a clock.
 #[test]
 fn workers_that_sleep_end_with_the_others(rt: HostRuntime) -> Result<(), Fail> {
     for tick_ms in [0, 2u64] {
@@ -117,8 +117,8 @@ fn ring_on<R: Clock>(rt: &R, gate: &Quiet, most: u32) -> u32 {
     0
 }
 
-/// Checks that the worker of a watched place wakes when its bell rings: in 2,000 milliseconds it finds nothing 400 times,
-/// and it sleeps for 50 milliseconds if nobody rings. A watched place whose bell nobody rings goes on.
+/// Checks that the worker of a watched place wakes when its bell rings: in 2,000 milliseconds it finds nothing 400
+/// times, and it sleeps for 50 milliseconds if nobody rings. A watched place whose bell nobody rings goes on.
 #[test]
 fn a_watched_place_wakes_when_its_bell_rings(rt: HostRuntime) -> Result<(), Fail> {
     for (most, left) in [(2_000u32, 400u64), (0, 4)] {
