@@ -12,8 +12,8 @@ use std::io::{ErrorKind, Read};
 /// The number of octets that are read at a time.
 const CHUNK: usize = 4096;
 
-/// The number of octets after which a reply must have ended. The longest reply of a run has less than 16,384.
-const LONGEST: usize = 65_536;
+/// The number of octets after which a reply must have ended. The longest reply of a run has less than 400,000.
+const LONGEST: usize = 524_288;
 
 /// The result that the last line of a reply gives.
 #[derive(Clone, Copy, Debug, PartialEq, Eq)]

@@ -75,7 +75,7 @@ fn ask<Q: Write, R: Read, W: Write>(
 ///
 /// # Errors
 ///
-/// `HungUp` if the other side hangs up before its reply has ended, or sends more than 65,536 octets that are no reply.
+/// `HungUp` if the other side hangs up before its reply has ended, or sends more than 524,288 octets that are no reply.
 /// `Input` if the input can't be read. `Memory` if an allocation failed. After these the replies to the earlier
 /// commands are printed whole, and nothing else. `Output` if a reply can't be printed.
 pub fn converse<I: Read, Q: Write, R: Read, W: Write>(

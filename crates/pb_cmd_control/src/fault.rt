@@ -11,7 +11,7 @@ use thiserror::Error;
 /// A reason why a conversation with a control socket ends early. Its text follows `fault: ` on standard error.
 #[derive(Clone, Copy, Debug, PartialEq, Eq, Error)]
 pub enum ControlFault {
-    /// The run hung up before its reply ended, or sent more than 65,536 octets that are no reply.
+    /// The run hung up before its reply ended, or sent more than 524,288 octets that are no reply.
     #[error("read")]
     HungUp,
     /// The commands can't be read.

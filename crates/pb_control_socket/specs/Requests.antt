@@ -1,5 +1,5 @@
 -- The request of a line of the control socket.
-use Rattle.std.specs.Prelude.{◌≡◌, ◌⊎◌, ℕ, ◌+◌, Bool, true, false, ◌==◌, List, [], ◌∷◌, map, take, drop}
+use Rattle.std.specs.Prelude.{◌≡◌, ◌≢◌, ◌⊎◌, ℕ, ◌+◌, Bool, true, false, ◌==◌, List, [], ◌∷◌, map, take, drop}
 use Rattle.std.specs.Prelude.{Option, Some, Result, Ok, Err, codes}
 use Rattle.std.specs.List.{position}
 use Rattle.std.specs.Option.{option_map}
@@ -12,7 +12,7 @@ use Rattle.pb_step_script.specs.Named.{bridge_named}
 use Rattle.pb_messages.specs.Words.{cut, port_of, local_port}
 use Rattle.pb_control_socket.specs.Parts.{part_named, is_part, ends_of_part}
 use Rattle.pb_control_socket.specs.declared.request.Request.{Request}
-use Rattle.pb_control_socket.specs.declared.request.Request.TheVariants.{Stop, Counts, Tree, Set, SetPart}
+use Rattle.pb_control_socket.specs.declared.request.Request.TheVariants.{Stop, Counts, Tree, Drops, Help, Set, SetPart}
 use Rattle.pb_control_socket.specs.declared.request.Refused.{Refused}
 use Rattle.pb_control_socket.specs.declared.request.Refused.TheVariants.{NoSuch, Bad}
 
@@ -40,6 +40,8 @@ abbrev pub AsksFor : Plan → List ℕ → Bool → Request → Type 0
 AsksFor plan words up Stop = ⊥
 AsksFor plan words up Counts = ⊥
 AsksFor plan words up Tree = ⊥
+AsksFor plan words up Drops = ⊥
+AsksFor plan words up Help = ⊥
 AsksFor plan words up (Set bridge port way) =
     (way ≡ up) × (IsBridgePort plan words bridge port ⊎ IsColonPort plan words bridge port)
 AsksFor plan words up (SetPart part way) = (way ≡ up) × (is_name words ≡ true) × (part ≡ part_named plan words)
@@ -56,14 +58,23 @@ abbrev pub Asks : Plan → List ℕ → Request → Type 0
 Asks plan line Stop = line ≡ codes "stop"
 Asks plan line Counts = line ≡ codes "counts"
 Asks plan line Tree = line ≡ codes "tree"
+Asks plan line Drops = line ≡ codes "drops"
+Asks plan line Help = line ≡ codes "help"
 Asks plan line (Set bridge port up) = AsksToSet plan line (Set bridge port up)
 Asks plan line (SetPart part up) = AsksToSet plan line (SetPart part up)
+
+-- the line is no request of a single argument
+abbrev pub IsNoWord : List ℕ → Type 0
+IsNoWord line = (line ≢ codes "stop") × (line ≢ codes "counts") × (line ≢ codes "tree") × (line ≢ codes "drops")
+    × (line ≢ codes "help")
 
 -- the port to be set leads to another bridge; the name of the part means one
 abbrev pub is_there : Plan → Request → Bool
 is_there plan Stop = true
 is_there plan Counts = true
 is_there plan Tree = true
+is_there plan Drops = true
+is_there plan Help = true
 is_there plan (Set bridge port up) = is_provider (port_at plan bridge port)
 is_there plan (SetPart part up) = is_part part
 
@@ -82,5 +93,7 @@ abbrev pub changes : Plan → Request → List Request
 changes plan Stop = Stop ∷ []
 changes plan Counts = []
 changes plan Tree = []
+changes plan Drops = []
+changes plan Help = []
 changes plan (Set bridge port up) = Set bridge port up ∷ []
 changes plan (SetPart part up) = map (set_end up) (ends_of_part plan part)

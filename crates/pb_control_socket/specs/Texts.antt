@@ -1,10 +1,12 @@
 -- The lines of replies.
-use Rattle.std.specs.Prelude.{◌≡◌, ℕ, List, [], ◌∷◌, ◌++◌, Some, None, map, flat_map, unwrap_or, codes}
+use Rattle.std.specs.Prelude.{◌≡◌, ℕ, ◌+◌, ◌-◌, ◌*◌, ◌==◌, if◌then◌else◌, List, [], ◌∷◌, ◌++◌, Some, None, map, flat_map}
+use Rattle.std.specs.Prelude.{unwrap_or, slice_index, codes}
 use Rattle.std.specs.declared.option.Option.{Option}
 use Rattle.std.specs.Fmt.{decimal}
 use Rattle.pb_lan.specs.declared.plan.Plan.{Plan}
 use Rattle.pb_lan.specs.Numbering.{numbered}
 use Rattle.pb_lan.specs.Ports.{local_ports}
+use Rattle.pb_messages.specs.Reasons.{drop_word}
 use Rattle.pb_names.specs.Names.{role_word, state_word}
 use Rattle.pb_rstp.specs.declared.role.Role.{Role}
 use Rattle.pb_step_script.specs.Counts.{AreByName}
@@ -40,6 +42,39 @@ line_among name views port = view_line name port (unwrap_or (numbered views port
 abbrev pub view_lines : List ℕ → List (Option PortView) → List ℕ
 view_lines name views = flat_map (line_among name views) local_ports
 
+-- the line of a count of frames that a bridge's port dropped, if there are any
+abbrev pub drop_line : List ℕ → ℕ → ℕ → ℕ → List ℕ
+drop_line name port number count = if count == 0 then [] else
+    (codes "bridge " ++ name ++ codes " port " ++ decimal port ++ 32 ∷ drop_word number ++ 32 ∷ decimal count
+    ++ 10 ∷ [])
+
+-- the numbers of the counts of a port
+abbrev pub drop_numbers : List ℕ
+drop_numbers = 0 ∷ 1 ∷ 2 ∷ 3 ∷ 4 ∷ 5 ∷ 6 ∷ 7 ∷ 8 ∷ 9 ∷ []
+
+-- the count of this number of a local port: the counts of port 1 are the first ten, those of port 2 the next
+abbrev pub drop_count : List ℕ → ℕ → ℕ → ℕ
+drop_count counts port number = slice_index counts (10 * (port - 1) + number)
+
+-- the lines of one of a bridge's ports, and those of all, with these counts
+abbrev pub port_drops : List ℕ → List ℕ → ℕ → List ℕ
+port_drops name counts port =
+    flat_map (λ number. drop_line name port number (drop_count counts port number)) drop_numbers
+
+abbrev pub drop_lines : List ℕ → List ℕ → List ℕ
+drop_lines name counts = flat_map (port_drops name counts) local_ports
+
+-- a line for each request
+abbrev pub help_text : List ℕ
+help_text =
+    codes "stop       end the run and print its report\n"
+    ++ codes "counts     frames that entered, left and found a full queue\n"
+    ++ codes "tree       role and state of each port between bridges\n"
+    ++ codes "drops      frames that were dropped, by bridge, port and reason\n"
+    ++ codes "down NAME  disable a link, a bridge or a port BRIDGE:PORT\n"
+    ++ codes "up NAME    enable it again\n"
+    ++ codes "help       print these lines\n"
+
 -- the lines of each of these names and numbers, with the values that were returned for the number
 abbrev pub AreLines : {A : Type 0} → (List ℕ → A → List ℕ) → (ℕ → A → Type 0) → List (List ℕ × ℕ) → List ℕ → Type 0
 AreLines line told [] text = text ≡ []
@@ -63,3 +98,7 @@ pub record IsCountsText (plan : Plan) (told_port told_bridge : ℕ → ℕ × �
 -- the lines of all ports between bridges
 abbrev pub IsTreeText : Plan → (told_views : ℕ → List (Option PortView) → Type 0) → List ℕ → Type 0
 IsTreeText plan told_views text = AreLinesByName view_lines told_views (map (λ b. b.name) plan.bridges) text
+
+-- the lines of the dropped frames of all bridges
+abbrev pub IsDropsText : Plan → (told_drops : ℕ → List ℕ → Type 0) → List ℕ → Type 0
+IsDropsText plan told_drops text = AreLinesByName drop_lines told_drops (map (λ b. b.name) plan.bridges) text

@@ -29,6 +29,9 @@ pub trait Board {
     /// These views were returned for the ports of the bridge of this number.
     ghost told_views: { Self → ℕ → List (Option PortView) → Type 0 } = { λ _ _ _. Unit {0} };
 
+    /// These counts of dropped frames were returned for the bridge of this number.
+    ghost told_drops: { Self → ℕ → List ℕ → Type 0 } = { λ _ _ _. Unit {0} };
+
     /// Ends the run.
     fn stop(&self)
         requires { allows self.now stops }
@@ -51,4 +54,9 @@ pub trait Board {
     /// bridge, and for all ports before the bridge has begun.
     fn views(&self, bridge: u8) -> [Option<PortView>; 16]
         ensures { told_views self.now bridge result };
+
+    /// Returns how many frames the bridge (from 1) dropped: ten counts of local port 1, then those of port 2, and so on
+    /// to port 16. [`drop_word`](pb_messages::drop_word) has the word for each count of a port by its number, 0 to 9.
+    fn drops(&self, bridge: u8) -> [u64; 160]
+        ensures { told_drops self.now bridge result };
 }

@@ -8,6 +8,8 @@
 mod board;
 mod control;
 mod counts;
+mod drops;
+mod help;
 mod lines;
 mod parts;
 mod path;

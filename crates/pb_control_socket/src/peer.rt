@@ -23,7 +23,9 @@ const CHUNK: usize = 512;
 /// The progress that one call made with a peer.
 #[derive(Clone, Copy, Debug, PartialEq, Eq)]
 pub(crate) enum Progress {
-    /// Something was done.
+    /// The peer has connected, or octets came from it.
+    Heard,
+    /// Something else was done.
     Moved,
     /// Nothing was to do.
     Idle,
@@ -80,7 +82,7 @@ impl<S: Read + Write> Peer<S> {
         match self.stream.read(&mut octets) {
             Ok(0) => Progress::Gone,
             Ok(count) => match self.lines.put(&octets[..count]) {
-                Ok(()) => Progress::Moved,
+                Ok(()) => Progress::Heard,
                 Err(Memory) => Progress::Gone,
             },
             Err(e) => progress_of(&e),

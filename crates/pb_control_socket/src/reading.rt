@@ -1,14 +1,13 @@
 //! Reads the request of a line.
 
 ghost use Rattle.std.specs.Prelude.{◌≡◌, ◌≢◌, ◌⊎◌, ◌==◌, ◌<◌, ℕ, Bool, false, Some, None, IfSome, IfNone, length};
-ghost use Rattle.std.specs.Prelude.{codes};
 ghost use Rattle.std.specs.List.{position};
 ghost use Rattle.pb_control_socket.specs.Sizes.{IsFew};
 ghost use Rattle.pb_lan.specs.Names.{is_name};
 ghost use Rattle.pb_lan.specs.declared.plan.Plan.{Plan};
 ghost use Rattle.pb_step_script.specs.Lines.{IsBridgePort};
 ghost use Rattle.pb_control_socket.specs.Requests.{way_word, colon_cut, IsColonPort, AsksFor, AsksToSet, Reads};
-ghost use Rattle.pb_control_socket.specs.Requests.{is_there};
+ghost use Rattle.pb_control_socket.specs.Requests.{is_there, IsNoWord};
 ghost use Rattle.pb_control_socket.specs.declared.request.Request.{Request};
 
 use crate::places::{bridge_named, is_part, leads_on, part_named};
@@ -128,15 +127,17 @@ fn read_setting(plan: &Plan, line: &[u8]) -> Option<Request>
     read_change(plan, words, up)
 }
 
-/// Returns the request that is a single argument: `stop`, `counts` or `tree`.
+/// Returns the request that is a single argument: `stop`, `counts`, `tree`, `drops` or `help`.
 fn read_word(line: &[u8]) -> Option<Request>
     ensures some { IfSome result (λ request. (plan : Plan) → Reads plan line.now (Ok request)) }
-    ensures none { IfNone result ((line.now ≢ codes "stop") × (line.now ≢ codes "counts") × (line.now ≢ codes "tree")) }
+    ensures none { IfNone result (IsNoWord line.now) }
 {
     match line {
         b"stop" => Some(Request::Stop),
         b"counts" => Some(Request::Counts),
         b"tree" => Some(Request::Tree),
+        b"drops" => Some(Request::Drops),
+        b"help" => Some(Request::Help),
         _ => None,
     }
 }
@@ -146,7 +147,7 @@ fn is_there(plan: &Plan, request: Request) -> bool
     ensures { result ≡ is_there plan.now request }
 {
     match request {
-        Request::Stop | Request::Counts | Request::Tree => true,
+        Request::Stop | Request::Counts | Request::Tree | Request::Drops | Request::Help => true,
         Request::Set { bridge, port, .. } => leads_on(plan, bridge, port),
         Request::SetPart { part, .. } => is_part(part),
     }
@@ -172,8 +173,8 @@ fn read_set(plan: &Plan, line: &[u8]) -> Result<Request, Refused>
     }
 }
 
-/// Reads the request of a line: one of `stop`, `counts`, `tree`, `up NAME` and `down NAME`, without its LF. One space
-/// is between two arguments.
+/// Reads the request of a line: one of `stop`, `counts`, `tree`, `drops`, `help`, `up NAME` and `down NAME`, without
+/// its LF. One space is between two arguments.
 ///
 /// NAME is the name of a link, for both of its ends; or of a bridge, for both ends of each of its links, which may be
 /// none; or a port to another bridge as `BRIDGE:PORT` or `BRIDGE PORT`, for that end alone. A name has 1 to 32 letters,

@@ -10,6 +10,8 @@ ghost use Rattle.pb_control_socket.specs.declared.request.Request.{Request};
 
 use crate::board::Board;
 use crate::counts::put_counts;
+use crate::drops::put_drops;
+use crate::help::put_help;
 use crate::parts::set_part;
 use crate::reading::read_request;
 use crate::request::{Refused, Request};
@@ -57,11 +59,14 @@ fn put_told<B: Board>(
 ) -> Result<(), Memory>
     requires { IsFew plan.now }
     ensures { OnOk result ((told : List ℕ) × (string_bytes out.new ≡ string_bytes out.old ++ told)
-        × IsTold plan.now (B.told_port board.now) (B.told_bridge board.now) (B.told_views board.now) request told) }
+        × IsTold plan.now (B.told_port board.now) (B.told_bridge board.now) (B.told_views board.now)
+        (B.told_drops board.now) request told) }
 {
     match request {
         Request::Counts => put_counts(alloc, plan, board, out),
         Request::Tree => put_tree(alloc, plan, board, out),
+        Request::Drops => put_drops(alloc, plan, board, out),
+        Request::Help => put_help(out),
         Request::Stop | Request::Set { .. } | Request::SetPart { .. } => Ok(()),
     }
 }
@@ -73,7 +78,7 @@ fn perform<B: Board>(plan: &Plan, board: &B, request: Request)
 {
     match request {
         Request::Stop => board.stop(),
-        Request::Counts | Request::Tree => {}
+        Request::Counts | Request::Tree | Request::Drops | Request::Help => {}
         Request::Set { bridge, port, up } => board.set(bridge, port, up),
         Request::SetPart { part, up } => set_part(plan, board, part, up),
     }
@@ -85,7 +90,10 @@ fn perform<B: Board>(plan: &Plan, board: &B, request: Request)
 /// to `counts` has a line `port NAME entered N left N` for each customer port and a line `bridge NAME refused N ticks
 /// N` for each bridge, both by the octets of the names. The reply to `tree` has a line `port BRIDGE N ROLE STATE` for
 /// each port to another bridge, by the octets of the bridges' names and by number, without the role if the plan gives
-/// the states. Nothing is done except what the line requests.
+/// the states. The reply to `drops` has a line `bridge NAME port N WORD COUNT` for each count of a local port that is
+/// not 0, by the octets of the bridges' names, by port, and by number: WORD is that of
+/// [`drop_word`](pb_messages::drop_word). The reply to `help` has a line for each request. Nothing is done except what
+/// the line requests.
 ///
 /// # Errors
 ///
@@ -102,7 +110,7 @@ pub fn answer<B: Board>(
     requires allowed { (request : Request) → Asks plan.now line.now request → is_there plan.now request ≡ true
         → All (B.allows board.now) (changes plan.now request) }
     ensures { OnOk result (HasAnswered plan.now (B.was_asked board.now) (B.told_port board.now)
-        (B.told_bridge board.now) (B.told_views board.now)
+        (B.told_bridge board.now) (B.told_views board.now) (B.told_drops board.now)
         line.now (string_bytes out.old) (string_bytes out.new)) }
 {
     match read_request(plan, line) {

@@ -20,6 +20,10 @@ pub enum Request {
     Counts,
     /// `tree`: the roles and states of the ports between bridges.
     Tree,
+    /// `drops`: the frames that bridges dropped, by local port and reason.
+    Drops,
+    /// `help`: the requests.
+    Help,
     /// `up BRIDGE PORT`, `down BRIDGE PORT`, or the same with `BRIDGE:PORT`: enable or disable a port to another
     /// bridge.
     Set {

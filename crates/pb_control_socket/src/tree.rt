@@ -15,7 +15,7 @@ use pb_threads::PortView;
 use std::alloc::Global;
 
 /// The numbers of a bridge's local ports.
-const PORTS: &[u8] = &[1, 2, 3, 4, 5, 6, 7, 8, 9, 10, 11, 12, 13, 14, 15, 16];
+pub(crate) const PORTS: &[u8] = &[1, 2, 3, 4, 5, 6, 7, 8, 9, 10, 11, 12, 13, 14, 15, 16];
 
 /// Appends the name of a role and a space, if there is a role.
 ///

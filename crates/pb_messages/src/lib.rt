@@ -11,6 +11,6 @@ mod writing;
 
 pub use bad::{MAX_LINE, put_bad};
 pub use fault::CommandFault;
-pub use reason::put_reason;
+pub use reason::{drop_word, put_reason};
 pub use words::{cut, local_port, read_port};
 pub use writing::write_whole;

@@ -1,7 +1,7 @@
 //! Drop reasons.
 
 ghost use Rattle.std.specs.Prelude.{◌≡◌, ◌++◌, string_bytes, OnOk};
-ghost use Rattle.pb_messages.specs.Reasons.{reason_word};
+ghost use Rattle.pb_messages.specs.Reasons.{reason_word, drop_word};
 
 use pb_frame::Memory;
 use pb_lan::Reason;
@@ -26,4 +26,24 @@ pub fn put_reason(out: &mut String, reason: Reason) -> Result<(), Memory>
         Reason::Long => out.push_str("long")?,
     }
     Ok(())
+}
+
+/// Returns the word for the frames that are counted under a number: the drop reason, `reserved` for all reserved
+/// addresses, or `no-port` for frames that were relayed to no port. The numbers are those of `drop_number` and `NO_PORT`
+/// of pb_history. Every number above 8 gives `no-port`.
+pub fn drop_word(number: u8) -> &'static str
+    ensures { result.now ≡ drop_word number }
+{
+    match number {
+        0 => "not-forwarding",
+        1 => "not-member",
+        2 => "untagged",
+        3 => "reserved",
+        4 => "malformed",
+        5 => "worn",
+        6 => "memory",
+        7 => "s-tagged",
+        8 => "long",
+        _ => "no-port",
+    }
 }

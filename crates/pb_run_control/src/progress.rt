@@ -32,6 +32,11 @@ pub trait RunProgress: Gate {
     /// Receives that frames may enter. They were held back until the bridges converged.
     fn open(&self, opening: Opening);
 
+    /// Returns the time of a clock that never goes back, in seconds. A gate without a clock always returns 0.
+    fn seconds(&self) -> u64 {
+        0
+    }
+
     /// Receives that the run is over: no worker runs any more, and no report is printed yet.
     fn close(&self);
 

@@ -12,7 +12,7 @@ use pb_control_socket::{Board, Control};
 use pb_frame::Memory;
 use pb_lan::{Place, Plan};
 use pb_service::PortEvent;
-use pb_threads::{Bells, Gate, Go, PortView, Wish};
+use pb_threads::{Bells, Dropped, Gate, Go, PortView, Wish};
 use std::alloc::Global;
 use std::fs::Files;
 use std::sync::Mutex;
@@ -240,10 +240,11 @@ impl<'a, G> Steering<'a, G> {
         Some(opening)
     }
 
-    /// Takes a turn of the control socket, and returns whether the run goes on.
-    fn attend(&self) -> Go {
+    /// Takes a turn of the control socket at this second of the clock, and returns whether the run goes on.
+    fn attend(&self, now: u64) -> Go {
         if let Some(mut held) = self.control.try_lock() {
             if let Some(control) = held.as_mut() {
+                control.make_way(now);
                 control.turn(self.plan, self);
             }
         }
@@ -275,6 +276,10 @@ impl<G> Board for Steering<'_, G> {
         self.traffic.at_bridge(bridge)
     }
 
+    fn drops(&self, bridge: u8) -> [u64; 160] {
+        self.traffic.drops(bridge)
+    }
+
     fn views(&self, bridge: u8) -> [Option<PortView>; 16] {
         match self.courses.get(usize::from(bridge).wrapping_sub(1)) {
             Some(course) => course.views.all(),
@@ -289,7 +294,7 @@ impl<G: RunProgress> Gate for Steering<'_, G> {
             if let Some(opening) = self.let_in() {
                 self.gate.open(opening);
             }
-            if self.attend() == Go::Stop {
+            if self.attend(self.gate.seconds()) == Go::Stop {
                 return Go::Stop;
             }
         }
@@ -301,7 +306,7 @@ impl<G: RunProgress> Gate for Steering<'_, G> {
             if let Some(opening) = self.let_in() {
                 self.gate.open(opening);
             }
-            if self.attend() == Go::Stop {
+            if self.attend(self.gate.seconds()) == Go::Stop {
                 return Go::Stop;
             }
         }
@@ -354,6 +359,12 @@ impl<G: RunProgress> Gate for Steering<'_, G> {
             self.traffic.refuse(bridge, copies);
         }
     }
+
+    fn dropped(&self, place: Place, port: u8, dropped: Dropped) {
+        if let Place::Bridge(bridge) = place {
+            self.traffic.drop(bridge, port, dropped);
+        }
+    }
 }
 
 impl<G: RunProgress> RunProgress for Steering<'_, G> {
@@ -367,5 +378,9 @@ impl<G: RunProgress> RunProgress for Steering<'_, G> {
 
     fn peer(&self, port: &str, change: PeerChange) {
         self.gate.peer(port, change);
+    }
+
+    fn seconds(&self) -> u64 {
+        self.gate.seconds()
     }
 }

@@ -1,5 +1,7 @@
 //! The live counts of a network.
 
+use pb_history::{NO_PORT, drop_number};
+use pb_threads::Dropped;
 use std::alloc::{AllocError, Global};
 use std::sync::atomic::{AtomicU64, Ordering};
 
@@ -8,6 +10,13 @@ const PORTS: usize = 128;
 
 /// The greatest number of bridges.
 const BRIDGES: usize = 32;
+
+/// The number of counts of dropped frames of a local port: one for each number that pb_history gives to reasons, and
+/// one for frames that were relayed to no port.
+const KINDS: usize = 10;
+
+/// The number of counts of dropped frames of a bridge: those of its local ports 1 to 16.
+const DROPS: usize = 160;
 
 /// Unused octets between the counts of one worker and those of the next. Processors that write to the same 128 octets
 /// wait for one another.
@@ -21,12 +30,35 @@ struct PortTraffic {
     _gap: Gap,
 }
 
-/// The copies that a bridge lost because a queue was full, and the ticks of its clock.
+/// The copies that a bridge lost because a queue was full, the ticks of its clock, and the frames that it dropped: of
+/// each local port in turn, by number.
 #[derive(Drop)]
 struct BridgeTraffic {
     refused: AtomicU64,
     ticks: AtomicU64,
+    drops: Vec<AtomicU64>,
     _gap: Gap,
+}
+
+/// Returns counts of dropped frames that are all 0.
+///
+/// # Errors
+///
+/// `AllocError` if an allocation failed.
+fn no_drops(alloc: Global) -> Result<Vec<AtomicU64>, AllocError> {
+    let mut drops = Vec::with_capacity(alloc, DROPS)?;
+    for _ in 0..DROPS {
+        drops.push(AtomicU64::new(0))?;
+    }
+    Ok(drops)
+}
+
+/// Returns the number of the count of a dropped frame among those of its port.
+fn number_of(dropped: Dropped) -> u8 {
+    match dropped {
+        Dropped::By(reason) => drop_number(reason),
+        Dropped::Nowhere => NO_PORT,
+    }
 }
 
 /// The live counts of a network. Workers count, and readers may see a count a moment later. The report of a run counts
@@ -62,6 +94,7 @@ impl Traffic {
             bridges.push(BridgeTraffic {
                 refused: AtomicU64::new(0),
                 ticks: AtomicU64::new(0),
+                drops: no_drops(alloc)?,
                 _gap: [0; 14],
             })?;
         }
@@ -87,6 +120,32 @@ impl Traffic {
         if let Some(bridge) = self.bridges.get(place_of(bridge)) {
             bridge.refused.fetch_add(copies, Ordering::SeqCst);
         }
+    }
+
+    /// Counts a frame that a local port of the bridge of this number, from 1, received and no port got.
+    pub fn drop(&self, bridge: u8, port: u8, dropped: Dropped) {
+        if let Some(bridge) = self.bridges.get(place_of(bridge)) {
+            let index = KINDS
+                .wrapping_mul(place_of(port))
+                .wrapping_add(usize::from(number_of(dropped)));
+            if let Some(count) = bridge.drops.get(index) {
+                count.fetch_add(1, Ordering::SeqCst);
+            }
+        }
+    }
+
+    /// Returns how many frames the bridge of this number, from 1, dropped: for each local port 1 to 16 in turn, ten
+    /// counts by number. They are 0 if there is no such bridge.
+    pub fn drops(&self, bridge: u8) -> [u64; DROPS] {
+        let mut drops = [0; DROPS];
+        if let Some(bridge) = self.bridges.get(place_of(bridge)) {
+            for (index, count) in bridge.drops.iter().enumerate() {
+                if index < DROPS {
+                    drops[index] = count.load(Ordering::SeqCst);
+                }
+            }
+        }
+        drops
     }
 
     /// Sets the ticks of the clock of the bridge of this number, from 1.
@@ -145,6 +204,17 @@ impl Traffic {
         let mut sum = 0u64;
         for bridge in &self.bridges {
             sum = sum.saturating_add(bridge.refused.load(Ordering::SeqCst));
+        }
+        sum
+    }
+
+    /// Returns how many frames all bridges dropped, those that were relayed to no port included.
+    pub fn dropped(&self) -> u64 {
+        let mut sum = 0u64;
+        for bridge in &self.bridges {
+            for count in &bridge.drops {
+                sum = sum.saturating_add(count.load(Ordering::SeqCst));
+            }
         }
         sum
     }

@@ -3,7 +3,7 @@
 ghost use Rattle.pb_lan.specs.Plans.{IsSound};
 
 use super::board::Fake;
-use super::plans::{COUNTS, TREE, plan};
+use super::plans::{COUNTS, DROPS, HELP, TREE, plan};
 use pb_control_socket::{Part, Refused, Request, answer, read_request};
 use pb_frame::Memory;
 use pb_lan::Plan;
@@ -26,6 +26,8 @@ const ASKING: &[Row] = &[
     ("stop", Ok(Request::Stop)),
     ("counts", Ok(Request::Counts)),
     ("tree", Ok(Request::Tree)),
+    ("drops", Ok(Request::Drops)),
+    ("help", Ok(Request::Help)),
     (
         "down west 2",
         Ok(Request::Set {
@@ -116,6 +118,12 @@ const WRONG: &[&str] = &[
     "trees",
     "tree\r",
     "Tree",
+    "drop",
+    "drops west",
+    "drops\r",
+    "Help",
+    "help stop",
+    "-h",
     "down",
     "down ",
     "down west ",
@@ -163,6 +171,8 @@ fn reply(read: Result<Request, Refused>) -> &'static str {
     match read {
         Ok(Request::Counts) => COUNTS,
         Ok(Request::Tree) => TREE,
+        Ok(Request::Drops) => DROPS,
+        Ok(Request::Help) => HELP,
         Ok(_) => "ok\n",
         Err(Refused::NoSuch) => "no such\n",
         Err(Refused::Bad) => "bad\n",
@@ -188,7 +198,8 @@ fn ends(up: bool) -> [Request; 2] {
 /// Checks whether exactly the changes of this request were made at the board.
 fn has_done(board: &Fake, read: Result<Request, Refused>) -> bool {
     match read {
-        Ok(Request::Counts | Request::Tree) | Err(_) => board.has_done(&[]),
+        Ok(Request::Counts | Request::Tree | Request::Drops | Request::Help) | Err(_) =>
+            board.has_done(&[]),
         Ok(Request::SetPart { up, .. }) => board.has_done(&ends(up)),
         Ok(request) => board.has_done(&[request]),
     }

@@ -73,4 +73,27 @@ impl Board for Fake {
         });
         views
     }
+
+    fn drops(&self, bridge: u8) -> [u64; 160] {
+        let mut drops = [0; 160];
+        if bridge == 1 {
+            drops[20] = 1;
+            drops[21] = 22;
+            drops[22] = 333;
+            drops[23] = 4;
+            drops[24] = 55;
+            drops[25] = 666;
+            drops[26] = 7;
+            drops[27] = 88;
+            drops[28] = 999;
+            drops[29] = 10;
+        } else {
+            drops[0] = 41;
+            drops[19] = 42;
+            drops[20] = 43;
+            drops[102] = 44;
+            drops[159] = u64::MAX;
+        }
+        drops
+    }
 }

@@ -36,7 +36,7 @@ const CONVERSATIONS: &[Row] = &[
     ("", 0),
     ("stop\n", 0),
     ("stop", 0),
-    ("counts\ntree\nup west 2\n", 0),
+    ("counts\ntree\ndrops\nhelp\nup west 2\n", 0),
     ("down L1\nup west\nup east:16\n", 0),
     ("down shop\nstop\n", 4),
     ("down west 1\n", 4),

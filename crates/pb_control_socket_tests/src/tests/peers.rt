@@ -149,6 +149,46 @@ const OUTLIVES_A_PEER: Story = &[
     Action::HaveHeard("ok\n"),
 ];
 
+/// A peer that sends nothing for 60 seconds is disconnected once another waits, and not before.
+const MAKES_WAY: Story = &[
+    Action::Connects(First),
+    Action::Says(First, b"st"),
+    Action::Shows(1_000),
+    Action::Connects(Second),
+    Action::Says(Second, b"stop\n"),
+    Action::Shows(1_060),
+    Action::Settles,
+    Action::Hears(First, false),
+    Action::Says(First, b"op\n"),
+    Action::HaveHeard("ok\n"),
+    Action::Shows(1_061),
+    Action::Shows(1_121),
+    Action::Settles,
+    Action::Hears(First, false),
+    Action::Shows(1_122),
+    Action::Settles,
+    Action::Hears(First, true),
+    Action::Hears(Second, false),
+    Action::HaveHeard("ok\nok\n"),
+];
+
+/// A silent peer is served for as long as no other waits.
+const STAYS_ALONE: Story = &[
+    Action::Connects(First),
+    Action::Settles,
+    Action::Shows(0),
+    Action::Shows(100_000),
+    Action::Shows(200_000),
+    Action::Says(First, b"stop\n"),
+    Action::HaveHeard("ok\n"),
+];
+
+#[test]
+fn silent_peers_make_way(rt: HostRuntime) -> Result<(), Fail> {
+    const STORIES: &[Story] = &[MAKES_WAY, STAYS_ALONE];
+    come_to_pass(&rt, rt.alloc(), rt.process(), STORIES)
+}
+
 #[test]
 fn one_peer_at_a_time_is_answered(rt: HostRuntime) -> Result<(), Fail> {
     const STORIES: &[Story] = &[ANSWERS_THE_LAST, WAITS_ITS_TURN, OUTLIVES_A_PEER];

@@ -59,6 +59,38 @@ port west 16 learning\n\
 ok\n\
 ";
 
+/// The reply to `drops`.
+pub(super) const DROPS: &str = "\
+bridge east port 1 not-forwarding 41\n\
+bridge east port 2 no-port 42\n\
+bridge east port 3 not-forwarding 43\n\
+bridge east port 11 untagged 44\n\
+bridge east port 16 no-port 18446744073709551615\n\
+bridge west port 3 not-forwarding 1\n\
+bridge west port 3 not-member 22\n\
+bridge west port 3 untagged 333\n\
+bridge west port 3 reserved 4\n\
+bridge west port 3 malformed 55\n\
+bridge west port 3 worn 666\n\
+bridge west port 3 memory 7\n\
+bridge west port 3 s-tagged 88\n\
+bridge west port 3 long 999\n\
+bridge west port 3 no-port 10\n\
+ok\n\
+";
+
+/// The reply to `help`.
+pub(super) const HELP: &str = "\
+stop       end the run and print its report\n\
+counts     frames that entered, left and found a full queue\n\
+tree       role and state of each port between bridges\n\
+drops      frames that were dropped, by bridge, port and reason\n\
+down NAME  disable a link, a bridge or a port BRIDGE:PORT\n\
+up NAME    enable it again\n\
+help       print these lines\n\
+ok\n\
+";
+
 /// Returns the plan of a plan file.
 fn plan_of(alloc: Global, file: &str) -> Result<Plan, Fail>
     ensures { IfOk result (λ plan. IsSound plan) }

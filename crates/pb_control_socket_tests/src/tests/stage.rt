@@ -37,6 +37,8 @@ pub(super) enum Action {
     Turns,
     /// The socket takes its turns.
     Settles,
+    /// The clock shows this many seconds.
+    Shows(u64),
     /// A peer hears the replies, and whether it is disconnected.
     Hears(Who, bool),
     /// A peer disconnects.
@@ -158,6 +160,12 @@ impl Stage {
     }
 }
 
+/// Lets the socket read a clock. Returns true.
+fn shows(control: &mut Control, seconds: u64) -> bool {
+    control.make_way(seconds);
+    true
+}
+
 /// Performs an action, and returns whether it went as stated.
 pub(super) fn happens(
     rt: &impl Net,
@@ -175,6 +183,7 @@ pub(super) fn happens(
         Action::IsDone(who) => Ok(stage.is_done(who)),
         Action::Turns => Ok(control.turn(plan, &stage.board)),
         Action::Settles => Ok(settles(control, plan, &stage.board)),
+        Action::Shows(seconds) => Ok(shows(control, seconds)),
         Action::Hears(who, is_end) => stage.hears(who, is_end),
         Action::HangsUp(who) => Ok(stage.hangs_up(who)),
         Action::HaveHeard(text) => Ok(stage.heard.as_slice() == text.as_bytes()),

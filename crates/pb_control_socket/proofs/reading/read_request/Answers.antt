@@ -3,8 +3,7 @@ use Rattle.pb_control_socket.proofs.reading.read_request.Goals as goal
 
 pub returns-in-None : goal.returns-in-None
 returns-in-None c =
-    let none = c.in-None.ensures.none in
-    reads_set c.args.plan.now c.args.line.now c.read_set.result none.0 none.1 none.2 c.read_set.ensures.read
+    reads_set c.args.plan.now c.args.line.now c.read_set.result c.in-None.ensures.none c.read_set.ensures.read
     c.read_set.ensures.bad
 
 pub returns-in-Some : goal.returns-in-Some
