@@ -1,5 +1,5 @@
 -- The errors of a plan file.
-use Rattle.std.specs.Prelude.{◌≡◌, ◌≢◌, ◌⊎◌, ◌-◌, ℕ, false, codes, List, [], ◌∷◌, take, drop, None, Some, Option, MatchOption, string_bytes}
+use Rattle.std.specs.Prelude.{◌≡◌, ◌≢◌, ◌⊎◌, ◌-◌, ℕ, false, codes, List, [], ◌∷◌, take, drop, None, Some, Option, MatchOption, option_map, string_bytes}
 use Rattle.std.specs.List.{AllByRecursion}
 use Rattle.std.specs.Str.{IsUtf8}
 use Rattle.toml.specs.Data.{Members}
@@ -10,9 +10,9 @@ use Rattle.pb_diagnostics.specs.declared.diagnostic.Diagnostic.{Diagnostic}
 use Rattle.pb_diagnostics.specs.declared.mark.Mark.{Mark}
 use Rattle.pb_diagnostics.specs.declared.place.Place.{Place}
 use Rattle.pb_plan_errors.specs.Findings.{IsFinding, has_path}
-use Rattle.pb_plan_errors.specs.Hints.{IsHint}
+use Rattle.pb_plan_errors.specs.Hints.{IsPrintedHint}
 use Rattle.pb_plan_errors.specs.Marks.{IsMarkOf}
-use Rattle.pb_plan_errors.specs.Messages.{IsMessage}
+use Rattle.pb_plan_errors.specs.Messages.{IsPrintedMessage}
 use Rattle.pb_plan_errors.specs.declared.finding.Finding.{Finding}
 use Rattle.pb_service.specs.PlanFiles.{IsPlanFile, RefusesFile}
 use Rattle.pb_service.specs.Refusals.{Refuses}
@@ -43,8 +43,8 @@ pub record IsFoundError (file : List ℕ) (document : Members) (fault : PlanFaul
   pub placed : IsPlaced file mark e.place
   pub value : List ℕ
   pub value_is : IsMarkedText file mark value
-  pub message : IsMessage document fault finding.about value (string_bytes e.message)
-  pub hint : IsHint file document fault finding e.hint
+  pub message : IsPrintedMessage document fault finding.about value (string_bytes e.message)
+  pub hint : IsPrintedHint file document fault finding (option_map string_bytes e.hint)
 
 -- an error without place and hint
 pub record IsBare (e : Diagnostic) : Type 0 where

@@ -8,6 +8,7 @@ use Rattle.pb_frame.specs.Admission.{same}
 use Rattle.pb_diagnostics.specs.Nearest.{nearest, this_or}
 use Rattle.pb_diagnostics.specs.declared.site.Site.{Site}
 use Rattle.pb_diagnostics.specs.declared.site.Site.TheVariants.{RowKey}
+use Rattle.pb_printable.specs.Printable.{printable}
 use Rattle.pb_service.specs.declared.fault.PlanFault.{PlanFault}
 use Rattle.pb_service.specs.declared.fault.PlanFault.TheVariants.{Range, Unknown, Twice, NoSuch, LinkEnd}
 use Rattle.pb_service.specs.Told.{has_key}
@@ -83,3 +84,9 @@ IsHint file document (NoSuch name) f hint = option_map string_bytes hint ≡ mea
 IsHint file document (Twice name) f hint = TellsOther file document f.other hint
 IsHint file document LinkEnd f hint = TellsOther file document f.other hint
 IsHint file document fault f hint = hint ≡ None
+
+-- the printed hint for a fault, with the control characters of names escaped
+abbrev pub IsPrintedHint : List ℕ → Members → PlanFault → Finding → Option (List ℕ) → Type 0
+IsPrintedHint file document fault f text =
+    (hint : Option (String Global)) × (text ≡ option_map (λ h. printable (string_bytes h)) hint)
+    × IsHint file document fault f hint

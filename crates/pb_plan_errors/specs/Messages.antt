@@ -7,6 +7,7 @@ use Rattle.pb_lan.specs.Names.{is_name}
 use Rattle.pb_diagnostics.specs.Sites.{row_at, table_at}
 use Rattle.pb_diagnostics.specs.declared.site.Site.{Site}
 use Rattle.pb_diagnostics.specs.declared.site.Site.TheVariants.{Key, TableKey, Row, RowKey}
+use Rattle.pb_printable.specs.Printable.{printable}
 use Rattle.pb_service.specs.Tables.{text_at}
 use Rattle.pb_service.specs.declared.fault.PlanFault.{PlanFault}
 use Rattle.pb_service.specs.declared.fault.PlanFault.TheVariants.{Missing, Kind, Range, Unknown, Twice, NoSuch, LinkEnd, TooMany}
@@ -72,3 +73,8 @@ IsWrong document fault site value text = Unit {0}
 -- the text is the message for a fault at a key or table of a document: the table, and what is wrong
 abbrev pub IsMessage : Members → PlanFault → Site → List ℕ → List ℕ → Type 0
 IsMessage document fault site value text = (wrong : List ℕ) × (text ≡ subject document site ++ wrong) × IsWrong document fault site value wrong
+
+-- the printed message for a fault, with the control characters of keys, names and values escaped
+abbrev pub IsPrintedMessage : Members → PlanFault → Site → List ℕ → List ℕ → Type 0
+IsPrintedMessage document fault site value text =
+    (message : List ℕ) × (text ≡ printable message) × IsMessage document fault site value message

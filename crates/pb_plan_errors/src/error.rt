@@ -1,11 +1,14 @@
 //! The error of a plan file.
 
 ghost use Rattle.std.specs.Prelude.{◌≡◌, ◌≢◌, ◌⊎◌, ◌-◌, [], codes, take, drop, string_bytes};
-ghost use Rattle.std.specs.Prelude.{IfOk, OnOk, MatchOption, option_copied};
+ghost use Rattle.std.specs.Prelude.{IfOk, OnOk, MatchOption, option_copied, option_map};
 ghost use Rattle.toml.specs.View.{table_view};
 ghost use Rattle.pb_plan_errors.specs.Errors.{IsPlaced, IsMarkedText, IsFoundError, IsBare, IsDocumentError};
 ghost use Rattle.pb_plan_errors.specs.Errors.{IsTextError, IsErrorIn, IsFaultError, IsFaultOf, IsFirstError};
 ghost use Rattle.pb_plan_errors.specs.Findings.{IsFinding};
+ghost use Rattle.pb_plan_errors.specs.Hints.{IsPrintedHint};
+ghost use Rattle.pb_plan_errors.specs.Messages.{IsPrintedMessage};
+ghost use Rattle.pb_printable.specs.Printable.{printable};
 ghost use Rattle.pb_service.specs.PlanFiles.{IsPlanFile};
 ghost use Rattle.pb_service.specs.declared.fault.PlanFault.TheVariants.{Memory as lack};
 
@@ -13,8 +16,9 @@ use crate::finding::{Finding, finding_of};
 use crate::hint::hint_of;
 use crate::marking::mark_at;
 use crate::message::put_message;
-use pb_diagnostics::{Diagnostic, Mark, Part, Place, place_of};
+use pb_diagnostics::{Diagnostic, Mark, Part, Place, Site, place_of};
 use pb_frame::Memory;
+use pb_printable::put_printable;
 use pb_service::{PlanFault, read_plan};
 use std::alloc::Global;
 use toml::Table;
@@ -117,6 +121,48 @@ fn place_at(alloc: Global, file: &[u8], mark: Option<&Mark>) -> Result<Option<Pl
     }
 }
 
+/// Returns a text with its control characters escaped: keys, names and values of a file may have some.
+fn printable(alloc: Global, text: &str) -> Result<String, Memory>
+    ensures { IfOk result (λ printed. string_bytes printed ≡ printable text.now) }
+{
+    let mut printed = String::new(alloc);
+    put_printable(&mut printed, text)?;
+    Ok(printed)
+}
+
+/// Returns the printed message for a fault at a key or table of a document.
+fn message_of(
+    alloc: Global,
+    document: &Table,
+    fault: &PlanFault,
+    site: Site<'_>,
+    value: &str,
+) -> Result<String, Memory>
+    ensures { IfOk result (λ message.
+        IsPrintedMessage (table_view document.now) fault.now site.entry value.now (string_bytes message)) }
+{
+    let mut message = String::new(alloc);
+    put_message(&mut message, document, fault, site, value)?;
+    printable(alloc, message.as_str())
+}
+
+/// Returns the printed hint for a fault, if it has one.
+fn printed_hint(
+    alloc: Global,
+    file: &[u8],
+    document: &Table,
+    fault: &PlanFault,
+    finding: &Finding<'_>,
+) -> Result<Option<String>, Memory>
+    ensures { IfOk result (λ hint.
+        IsPrintedHint file.now (table_view document.now) fault.now finding.now (option_map string_bytes hint)) }
+{
+    match hint_of(alloc, file, document, fault, finding)? {
+        Some(hint) => Ok(Some(printable(alloc, hint.as_str())?)),
+        None => Ok(None),
+    }
+}
+
 /// Returns the error for a fault at a key or table of a document.
 fn found_error(
     alloc: Global,
@@ -129,23 +175,22 @@ fn found_error(
     ensures { IfOk result (IsFoundError file.now (table_view document.now) fault.now) }
 {
     let mark = mark_at(alloc, file, finding.shown, finding.part)?;
-    let mut message = String::new(alloc);
     let value = value_text(file, finding.part, mark.as_ref());
-    put_message(&mut message, document, fault, finding.about, value)?;
     Ok(Diagnostic {
         place: place_at(alloc, file, mark.as_ref())?,
-        message,
-        hint: hint_of(alloc, file, document, fault, finding)?,
+        message: message_of(alloc, document, fault, finding.about, value)?,
+        hint: printed_hint(alloc, file, document, fault, finding)?,
     })
 }
 
-/// Returns an error with the word of a fault alone.
+/// Returns an error with the printed text of a fault alone.
 fn bare_error(alloc: Global, fault: &PlanFault) -> Result<Diagnostic, Memory>
     ensures { IfOk result IsBare }
 {
+    let text = format!(in alloc; "{fault}")?;
     Ok(Diagnostic {
         place: None,
-        message: format!(in alloc; "{fault}")?,
+        message: printable(alloc, text.as_str())?,
         hint: None,
     })
 }

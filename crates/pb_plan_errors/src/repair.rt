@@ -165,8 +165,8 @@ fn unlist(row: &mut Table, key: &str, text: &str) {
     }
 }
 
-/// Repairs a key of a table: it gets a right value if it has no default or is a kind, and is removed otherwise. A name that
-/// nothing has is removed from a list.
+/// Repairs a key of a table: it gets a right value if it has no default or is a kind, and is removed otherwise. A name
+/// that nothing has is removed from a list.
 fn repair_key(
     alloc: Global,
     document: &mut Table,

@@ -1,6 +1,7 @@
 //! The errors of plan files.
 
 mod both_ends;
+mod printable;
 
 use pb_diagnostics::put_diagnostic;
 use pb_frame::Text;

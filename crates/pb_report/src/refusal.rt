@@ -2,13 +2,23 @@
 
 ghost use Rattle.std.specs.Prelude.{◌≡◌, ◌≢◌, ◌⊎◌, ◌++◌, string_bytes, IfErr, OnOk};
 ghost use Rattle.std.specs.Io.KnownBytes.{Appends, Keeps};
+ghost use Rattle.pb_printable.specs.Printable.{printable};
 ghost use Rattle.pb_report.specs.Refusals.{fault_words, refusal_line};
 
 use pb_frame::Memory;
 use pb_messages::{CommandFault, write_whole};
+use pb_printable::put_printable;
 use pb_service::PlanFault;
 use std::alloc::Global;
 use std::io::Write;
+
+/// Appends a word and a key or name of the file, with the control characters of the key or name escaped.
+fn put_named(out: &mut String, word: &str, name: &str) -> Result<(), Memory>
+    ensures { OnOk result (string_bytes out.new ≡ string_bytes out.old ++ (word.now ++ printable name.now)) }
+{
+    out.push_str(word)?;
+    put_printable(out, name)
+}
 
 /// Appends the printed text of a fault, with its key or name.
 fn put_fault(out: &mut String, fault: &PlanFault) -> Result<(), Memory>
@@ -17,12 +27,12 @@ fn put_fault(out: &mut String, fault: &PlanFault) -> Result<(), Memory>
     match fault {
         PlanFault::Utf8 => out.push_str("utf8")?,
         PlanFault::Toml => out.push_str("toml")?,
-        PlanFault::Missing(key) => write!(out, "missing {}", key.as_str())?,
-        PlanFault::Kind(key) => write!(out, "kind {}", key.as_str())?,
-        PlanFault::Range(key) => write!(out, "range {}", key.as_str())?,
-        PlanFault::Unknown(key) => write!(out, "unknown {}", key.as_str())?,
-        PlanFault::Twice(name) => write!(out, "twice {}", name.as_str())?,
-        PlanFault::NoSuch(name) => write!(out, "no-such {}", name.as_str())?,
+        PlanFault::Missing(key) => put_named(out, "missing ", key.as_str())?,
+        PlanFault::Kind(key) => put_named(out, "kind ", key.as_str())?,
+        PlanFault::Range(key) => put_named(out, "range ", key.as_str())?,
+        PlanFault::Unknown(key) => put_named(out, "unknown ", key.as_str())?,
+        PlanFault::Twice(name) => put_named(out, "twice ", name.as_str())?,
+        PlanFault::NoSuch(name) => put_named(out, "no-such ", name.as_str())?,
         PlanFault::LinkEnd => out.push_str("link-end")?,
         PlanFault::TooMany => out.push_str("too-many")?,
         PlanFault::Memory => out.push_str("memory")?,
