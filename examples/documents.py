@@ -34,7 +34,7 @@ def numbers(text):
 
 
 def groups(text):
-    return [group.split() for group in text.split("|")]
+    return [group.split() for group in text.split("|")] if text.strip() else []
 
 
 # How a group of an expression is read, by its name; a group of any other name is text.
@@ -98,6 +98,7 @@ LINES = {
         ("losses", rf"bridge (?P<bridge>{NAME}) port (?P<bridge_port>\d+): (?P<count>\d+) (?P<what>(?:copies|BPDUs) not queued): (?P<cause>full|memory)", {}),
         ("losses", rf"bridge (?P<bridge>{NAME}): (?P<count>\d+) (?P<what>sources not learnt): (?P<cause>full|memory)", {}),
         ("losses", r"(?P<what>bridges not converged)", {}),
+        ("drops", rf"bridge (?P<bridge>{NAME}) port (?P<bridge_port>\d+): (?P<count>\d+) frames dropped: (?P<reason>[a-z-]+)", {}),
         ("paths", rf"error: port (?P<port>{NAME}): (?:cannot )?(?P<use>read|write|connect|listen) (?P<path>.*?): (?P<why>.*)", {}),
         ("paths", r"error: cannot create control socket (?P<path>.*?): (?P<why>.*)", {"use": "control"}),
         ("warnings", r"warning: (?P<message>.*)", {}), *ENDS,
@@ -168,7 +169,7 @@ LINES = {
 # The lists of each document, and how their lines stand there.
 LISTS = {
     "check": {"counts": "one", "loops": "values", "warnings": "objects", "plan_fault": "one"},
-    "run": {"ports": "objects", "links": "objects", "loops": "values", "port_faults": "objects", "losses": "objects", "paths": "objects",
+    "run": {"ports": "objects", "links": "objects", "loops": "values", "port_faults": "objects", "losses": "objects", "drops": "objects", "paths": "objects",
             "warnings": "objects", "plan_fault": "one"},
     "step": {"answers": "values", "ports": "objects", "links": "objects", "loops": "values", "plan_fault": "one"},
     "trace": {"frames": "objects", "plan_fault": "one"},

@@ -281,10 +281,11 @@ for script in examples/*.steps; do
     documents "$it.expected" "$it.json" step "examples/$it.toml" <"$script"
     documents "$it.expected" "$it.csv" step "examples/$it.toml" <"$script"
 done
-for it in record captures; do
-    documents "$it.report" "$it.json" run "examples/$it.toml"
-    documents "$it.report" "$it.csv" run "examples/$it.toml"
-done
+documents record.report record.json run examples/record.toml
+documents record.report record.csv run examples/record.toml
+cat examples/captures.report examples/captures.errors >out/captures.all
+documents captures.all captures.json run examples/captures.toml
+documents captures.report captures.csv run examples/captures.toml
 
 # A document says why a command failed, with the status of the text.
 begin "a document of a plan file that is missing"
@@ -328,6 +329,7 @@ begin "run captures.toml"
 runs out/captures.report run examples/captures.toml
 ended 0
 same out/captures.report examples/captures.report
+same out/errors examples/captures.errors
 same out/shop.pcap examples/captures/provider.pcap
 same out/hotel.pcap examples/captures/provider.pcap
 same out/desk.pcap examples/captures/camera.pcap
@@ -508,7 +510,7 @@ wait
 ended 4
 head -n 1 out/still.all >out/still.report
 says out/still.report "ended stopped"
-has_line out/errors '0 frames entered, 0 left, 0 copies refused, tick 0'
+has_line out/errors '0 frames entered, 0 left, 0 dropped, 0 copies refused, tick 0'
 
 # The client of a control socket, with a run whose port waits for a peer. Port 2 of West is a customer's.
 begin "control"

@@ -2,6 +2,7 @@
 use Rattle.std.specs.Prelude.{ℕ, zero, suc, Option, List, [], ◌∷◌, ◌++◌, codes}
 use Rattle.std.specs.Io.KnownBytes.{Appends, Keeps}
 use Rattle.pb_lan.specs.declared.plan.CustomerPlan.{CustomerPlan}
+use Rattle.pb_printable.specs.Printable.{printable}
 use Rattle.pb_run_ports.specs.declared.open_fault.FileUser.{FileUser}
 use Rattle.pb_run_ports.specs.declared.open_fault.FileUser.TheVariants.{Plan, Reader, Writer}
 use Rattle.pb_run_ports.specs.declared.open_fault.OpenFault.{OpenFault}
@@ -23,9 +24,11 @@ word_of Write = codes "write"
 word_of Connect = codes "connect"
 word_of Listen = codes "listen"
 
--- the line with a port's name, the use that it makes of a path, and why it could not
+-- the line with a port's name, the use that it makes of a path, and why it could not; control characters of the path
+-- are escaped
 abbrev pub path_line : List ℕ → List ℕ → List ℕ → List ℕ → List ℕ
-path_line name word path why = codes "port " ++ name ++ codes ": " ++ word ++ codes " " ++ path ++ codes ": " ++ why ++ 10 ∷ []
+path_line name word path why =
+    codes "port " ++ name ++ codes ": " ++ word ++ codes " " ++ printable path ++ codes ": " ++ why ++ 10 ∷ []
 
 -- the text about the other user of a file
 abbrev pub sharing : List CustomerPlan → FileUser → List ℕ

@@ -3,7 +3,7 @@
 use crate::door::GateDoor;
 use crate::telling::name_at;
 use pb_lan::{CustomerPlan, Place};
-use pb_run::{Bells, Gate, Go, PortView, Wish};
+use pb_run::{Bells, Dropped, Gate, Go, PortView, Wish};
 use pb_run_control::{Opening, PeerChange, RunProgress};
 use std::net::{Net, TcpListener, TcpStream};
 use std::sync::Mutex;
@@ -22,8 +22,8 @@ struct News {
     change: PeerChange,
 }
 
-/// A gate that attends to the doors of ports that stay: it reports how their peers come and go, and connects to the next
-/// peer. In all else it is the gate inside. The worker of the first bridge does this before its turns.
+/// A gate that attends to the doors of ports that stay: it reports how their peers come and go, and connects to the
+/// next peer. In all else it is the gate inside. The worker of the first bridge does this before its turns.
 #[derive(Drop)]
 pub(crate) struct Attended<'a, R, G> {
     pub rt: &'a R,
@@ -104,6 +104,10 @@ where
         self.gate.refused(place, copies);
     }
 
+    fn dropped(&self, place: Place, port: u8, dropped: Dropped) {
+        self.gate.dropped(place, port, dropped);
+    }
+
     fn shows(&self, place: Place, port: u8, view: PortView) {
         self.gate.shows(place, port, view);
     }
@@ -130,5 +134,9 @@ where
 
     fn peer(&self, port: &str, change: PeerChange) {
         self.gate.peer(port, change);
+    }
+
+    fn seconds(&self) -> u64 {
+        self.gate.seconds()
     }
 }

@@ -1,7 +1,8 @@
 //! The command `run`: the network of a plan file in threads, between files and sockets.
 //!
 //! It runs the workers of pb_run over the ports of pb_port, opens them with pb_run_ports, and takes events and the
-//! control socket from pb_run_control. Begin with [`run_network`] in `network.rt`. The other files open ports and print texts.
+//! control socket from pb_run_control. Begin with [`run_network`] in `network.rt`. The other files open ports and print
+//! texts.
 #![tactic(auto)]
 
 mod any_port;

@@ -34,7 +34,7 @@ use pb_messages::write_whole;
 use pb_report::write_refusal;
 use pb_run::{Held, Ran, run_set};
 use pb_run_control::{RunProgress, Steering, Traffic};
-use pb_run_losses::{Strictness, exit_status, is_whole, lost_of};
+use pb_run_losses::{Strictness, dropped_of, exit_status, is_whole, lost_of};
 use pb_service::{PlanFault, PlanFile, PortSpec, read_plan_file};
 use std::alloc::Global;
 use std::fs::{File, Files};
@@ -76,6 +76,7 @@ fn lost_under(
     counts: &Tallies,
     settled: &Result<Option<bool>, Memory>,
 ) -> Result<String, NetworkFault>
+    requires sound { IsSound plan.now }
     requires ports { length ports.now ≡ length plan.now.customers }
     requires lists { length counts.now.customers ≡ length plan.now.customers }
     ensures err { IfErr result (λ e. e ≡ NetworkFault.Memory) }
@@ -93,6 +94,15 @@ fn lost_under(
 pub(crate) fn show<E: Write>(text: &str, errors: &mut E) {
     if !text.is_empty() {
         let _ = write_whole(errors, text.as_bytes());
+    }
+}
+
+/// Writes the counts of dropped frames that are no losses to `errors`. They are left out if an allocation fails.
+fn show_drops<E: Write>(alloc: Global, plan: &Plan, counts: &Tallies, errors: &mut E)
+    requires { IsSound plan.now }
+{
+    if let Ok(text) = dropped_of(alloc, plan, counts) {
+        show(text.as_str(), errors);
     }
 }
 
@@ -148,6 +158,7 @@ fn tell<W: Write, E: Write>(
     let told = write_report(alloc, plan, ran, writer)?;
     show_port_faults(alloc, plan, ran, errors);
     show(lost.as_str(), errors);
+    show_drops(alloc, plan, &ran.counts, errors);
     let is_whole = is_whole(ran.ended, lost.as_str());
     Ok(exit_status(strictness, is_whole, told))
 }
@@ -291,8 +302,9 @@ where
 ///
 /// After the run the ports have time to write the frames that wait in them, as the settings say. An output file to
 /// which nothing was written becomes a capture without records, or `errors` reports why it can't. Sockets that ports
-/// made are removed. `errors` names the inputs that are pcapng, and has the losses ([`lost_of`]) after the report. A
-/// strict run that had losses or did not end drained has the status 4 in place of 0.
+/// made are removed. `errors` names the inputs that are pcapng, and has the losses ([`lost_of`]) and the other dropped
+/// frames ([`dropped_of`]) after the report. A strict run that had losses or did not end drained has the status 4 in
+/// place of 0.
 ///
 /// # Errors
 ///

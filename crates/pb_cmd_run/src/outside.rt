@@ -312,8 +312,8 @@ fn open_system<R: Files<File = File> + Net, E: Write>(
     }
 }
 
-/// Opens the ports of a plan that was read at `plan_path`. Their frames are counted in `traffic`. The doors of ports that
-/// stay are appended to `doors`.
+/// Opens the ports of a plan that was read at `plan_path`. Their frames are counted in `traffic`. The doors of ports
+/// that stay are appended to `doors`.
 ///
 /// # Errors
 ///

@@ -3,9 +3,11 @@
 use crate::completing::CaptureFiles;
 use crate::input::input_path;
 use crate::telling::name_at;
+use pb_frame::Memory;
 use pb_lan::CustomerPlan;
 use pb_messages::write_whole;
 use pb_port::PortFault;
+use pb_printable::put_printable;
 use pb_run::Last;
 use std::alloc::Global;
 use std::fs::Files;
@@ -38,6 +40,14 @@ fn is_pcapng(rt: &impl Files, path: &str) -> bool {
     }
 }
 
+/// Appends the lines about an input that is pcapng, with the control characters of its path escaped.
+fn put_pcapng(out: &mut String, name: &str, path: &str) -> Result<(), Memory> {
+    write!(out, "error: port {name}: cannot read ")?;
+    put_printable(out, path)?;
+    out.push_str(": it is a pcapng file\nhint: convert it to pcap by `editcap -F pcap`\n")?;
+    Ok(())
+}
+
 /// Writes a line to `errors` for each port whose input was refused because it is pcapng.
 pub(crate) fn show_pcapng<E: Write>(
     rt: &impl Files,
@@ -60,11 +70,9 @@ pub(crate) fn show_pcapng<E: Write>(
             continue;
         }
         let name = name_at(customers, capture.place);
-        if let Ok(line) = format!(in alloc;
-            "error: port {name}: cannot read {path}: it is a pcapng file\n\
-             hint: convert it to pcap by `editcap -F pcap`\n"
-        ) {
-            let _ = write_whole(errors, line.as_bytes());
+        let mut lines = String::new(alloc);
+        if put_pcapng(&mut lines, name, path).is_ok() {
+            let _ = write_whole(errors, lines.as_bytes());
         }
     }
 }

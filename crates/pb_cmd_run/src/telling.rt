@@ -7,6 +7,7 @@ ghost use Rattle.pb_cmd_run.specs.Telling.{name_at, word_of, path_line, sharing,
 use pb_frame::Memory;
 use pb_lan::CustomerPlan;
 use pb_messages::{CommandFault, write_whole};
+use pb_printable::put_printable;
 use pb_run_ports::{FileUser, OpenFault, Verb};
 use std::alloc::{AllocError, Global};
 use std::io::{Error, Write};
@@ -38,12 +39,14 @@ fn word_of(verb: Verb) -> &'static str
     }
 }
 
-/// Appends a line about a path.
+/// Appends a line about a path, with the control characters of the path escaped.
 fn put_line(out: &mut String, name: &str, word: &str, path: &str, why: &str) -> Result<(), Memory>
     ensures { OnOk result (string_bytes out.new ≡ string_bytes out.old
         ++ path_line name.now word.now path.now why.now) }
 {
-    writeln!(out, "port {name}: {word} {path}: {why}")?;
+    write!(out, "port {name}: {word} ")?;
+    put_printable(out, path)?;
+    writeln!(out, ": {why}")?;
     Ok(())
 }
 

@@ -1,12 +1,12 @@
 -- The depth of a document. JSON is read back if it nests at most 127 deep.
-use Rattle.std.proofs.Common.{ℕ, ◌≤◌, List, [], ◌∷◌, ◌++◌, map, Bool, true, false, if◌then◌else◌, Option, Some, None}
+use Rattle.std.proofs.Common.{ℕ, ◌≤◌, List, [], ◌∷◌, ◌++◌, map, length, ◌==◌, Bool, true, false, if◌then◌else◌, Option, Some, None}
 use Rattle.std.proofs.Common.{unwrap_or, Vec, Global, Bor, Ordering, Less, Equal, Greater, nat_cmp, arith}
 use Rattle.std.specs.Cmp.Lexicographic.{slice_cmp}
 use Rattle.std.specs.Ordering.{match_ordering}
 use Rattle.serde_json.specs.Data.{Data, null, object, string, number, unsigned, Members, no_members, member, put, depth}
 use Rattle.serde_json.specs.Data.{items_depth, members_depth}
 use Rattle.serde_json.specs.View.{items_of}
-use Rattle.pb_export.specs.Documents.{said_data, list_data, words_data, field_data, put_some, with_fields, is_at}
+use Rattle.pb_export.specs.Documents.{said_data, list_data, words_data, arrays_data, field_data, put_some, with_fields, is_at}
 use Rattle.pb_export.specs.Documents.{is_in, is_bare, row_data, first_data, inner_items, with_inner, item_data}
 use Rattle.pb_export.specs.Documents.{objects_of}
 use Rattle.pb_export.specs.Documents.{values_of, some_list, first_item, list_entry, with_lists, with_top}
@@ -73,6 +73,20 @@ unfolding AreShallow
 shallow-groups [] = tt
 shallow-groups (g ∷ groups) = (depth-words g.items, shallow-groups groups)
 
+depth-arrays : (groups : List (Vec (Bor (List ℕ)) Global)) (last : List (Bor (List ℕ)))
+    → depth (arrays_data groups last) ≤ 2
+depth-arrays groups last =
+    let inside = items_depth-of 1 (map (λ g. words_data g.items) groups ++ words_data last ∷ [])
+    (shallow-append 1 (map (λ g. words_data g.items) groups) (words_data last ∷ []) (shallow-groups groups)
+    (shallow-one 1 (words_data last) (depth-words last))) in
+    omega arith
+
+-- an array in place of which there may be an empty one
+depth-unless : (b c : Bool) (d : Data) → depth d ≤ 2 → depth (if b then (if c then list_data [] else d) else d) ≤ 2
+depth-unless true true d x = omega arith
+depth-unless true false d x = x
+depth-unless false c d x = x
+
 shallow-said : (says : Said) → IsShallow 2 (said_data says)
 unfolding IsShallow
 shallow-said (said.Word word) = omega arith
@@ -89,10 +103,9 @@ shallow-field (Words v) = let inside = depth-words v.items in omega arith
 shallow-field (Numbers v) = let inside = items_depth-of 0 (map (λ n. number (unsigned n)) v.items)
     (shallow-numbers v.items) in omega arith
 shallow-field (Groups v last) =
-    let inside = items_depth-of 1 (map (λ g. words_data g.items) v.items ++ words_data last.items ∷ [])
-    (shallow-append 1 (map (λ g. words_data g.items) v.items) (words_data last.items ∷ []) (shallow-groups v.items)
-    (shallow-one 1 (words_data last.items) (depth-words last.items))) in
-    omega arith
+    let inside = depth-unless (length v.items == 0) (length last.items == 0) (arrays_data v.items last.items)
+    (depth-arrays v.items last.items) in
+    omega (arith, inside)
 shallow-field (Chosen choice) = shallow-said choice.says
 
 -- members

@@ -39,8 +39,13 @@ abbrev pub numbers_data : List ℕ → Data
 numbers_data numbers = list_data (map (λ n. number (unsigned n)) numbers)
 
 -- an array of arrays of words
+abbrev pub arrays_data : List (Vec (Bor (List ℕ)) Global) → List (Bor (List ℕ)) → Data
+arrays_data groups last = list_data (map (λ g. words_data g.items) groups ++ words_data last ∷ [])
+
+-- an array of groups of words, which is empty if there are no words
 abbrev pub groups_data : List (Vec (Bor (List ℕ)) Global) → List (Bor (List ℕ)) → Data
-groups_data groups last = list_data (map (λ g. words_data g.items) groups ++ words_data last ∷ [])
+groups_data groups last =
+    if length groups == 0 then (if length last == 0 then list_data [] else arrays_data groups last) else arrays_data groups last
 
 -- the value of a slot
 abbrev pub field_data : Field → Option Data

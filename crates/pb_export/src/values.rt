@@ -3,7 +3,7 @@
 ghost use Rattle.std.specs.Prelude.{◌≡◌, IfOk, option_map};
 ghost use Rattle.serde_json.specs.Data.{array};
 ghost use Rattle.serde_json.specs.View.{view, items_view};
-ghost use Rattle.pb_export.specs.Documents.{field_data, said_data, words_data, numbers_data, groups_data};
+ghost use Rattle.pb_export.specs.Documents.{field_data, said_data, words_data, numbers_data, arrays_data, groups_data};
 
 use crate::rows::Field;
 use crate::templates::Said;
@@ -45,8 +45,8 @@ fn numbers_value(alloc: Global, numbers: &[u64]) -> Result<Value, AllocError>
 }
 
 /// Returns an array of arrays of words.
-fn groups_value(alloc: Global, groups: &[Vec<&str>], last: &[&str]) -> Result<Value, AllocError>
-    ensures { IfOk result (λ v. view v ≡ groups_data groups.now last.now) }
+fn arrays_value(alloc: Global, groups: &[Vec<&str>], last: &[&str]) -> Result<Value, AllocError>
+    ensures { IfOk result (λ v. view v ≡ arrays_data groups.now last.now) }
 {
     let mut values = Vec::with_capacity(alloc, groups.len())?;
     for group in groups {
@@ -54,6 +54,18 @@ fn groups_value(alloc: Global, groups: &[Vec<&str>], last: &[&str]) -> Result<Va
     }
     values.push(words_value(alloc, last)?)?;
     Ok(Value::Array(values))
+}
+
+/// Returns an array of groups of words, which is empty if there are no words.
+fn groups_value(alloc: Global, groups: &[Vec<&str>], last: &[&str]) -> Result<Value, AllocError>
+    ensures { IfOk result (λ v. view v ≡ groups_data groups.now last.now) }
+{
+    if groups.len() == 0 {
+        if last.len() == 0 {
+            return Ok(Value::Array(Vec::new(alloc)));
+        }
+    }
+    arrays_value(alloc, groups, last)
 }
 
 /// Returns the value of a slot, or `None` if a fixed text has no meaning.

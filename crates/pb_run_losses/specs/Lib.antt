@@ -1,3 +1,4 @@
 pub mod Losses
+pub mod Drops
 pub mod Unwritten
 pub mod Strict

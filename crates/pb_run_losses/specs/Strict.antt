@@ -5,6 +5,7 @@ use Rattle.std.specs.declared.result.Result.{Result}
 use Rattle.pb_frame.specs.declared.memory.Memory.{Memory}
 use Rattle.pb_lan.specs.declared.plan.Plan.{Plan}
 use Rattle.pb_lan.specs.declared.record.Record.{Record}
+use Rattle.pb_run_losses.specs.Drops.{drops_text}
 use Rattle.pb_run_losses.specs.Losses.{losses_text}
 use Rattle.pb_workers.specs.Ports.{Frames}
 use Rattle.pb_run.specs.declared.ended.Ended.{Ended}
@@ -18,9 +19,12 @@ abbrev pub unsettled_line : Result (Option Bool) Memory → List ℕ
 unsettled_line (Ok (Some false)) = codes "bridges not converged" ++ 10 ∷ []
 unsettled_line _ = []
 
--- the loss report: frames that ports could not write, drops of bridges, and whether the bridges have converged
+-- the loss report: frames that ports could not write, copies, BPDUs and sources that bridges lost, dropped frames that
+-- are lost, and whether the bridges have converged
 abbrev pub lost_text : Plan → Record → Result (Option Bool) Memory → List Frames → List ℕ
-lost_text plan rec settled waiting = unwritten_lines plan.customers waiting rec.customers ++ losses_text plan rec ++ unsettled_line settled
+lost_text plan rec settled waiting =
+    unwritten_lines plan.customers waiting rec.customers ++ losses_text plan rec
+    ++ drops_text plan rec true ++ unsettled_line settled
 
 -- the run has drained, and its loss report is empty
 abbrev pub is_whole : Ended → List ℕ → Bool

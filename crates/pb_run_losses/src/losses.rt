@@ -11,7 +11,7 @@ use pb_history::{CauseCounts, Tallies, Tally};
 use pb_lan::Plan;
 
 /// Appends the name of a bridge, or of one of its ports.
-fn put_place(out: &mut String, name: &str, port: Option<u8>) -> Result<(), Memory>
+pub(crate) fn put_place(out: &mut String, name: &str, port: Option<u8>) -> Result<(), Memory>
     ensures { OnOk result (string_bytes out.new ≡ string_bytes out.old ++ place_words name.now port) }
 {
     match port {

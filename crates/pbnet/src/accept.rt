@@ -11,6 +11,7 @@ use pb_frame::Text;
 use pb_lan::Plan;
 use pb_messages::CommandFault;
 use pb_plan_spans::{Spot, spot_of};
+use pb_printable::put_printable;
 use pb_report::write_refusal;
 use pb_service::{PlanFault, read_plan};
 use std::alloc::{AllocError, Global};
@@ -47,6 +48,15 @@ fn place_words(alloc: Global, spot: Option<Spot>) -> Result<String, AllocError> 
     match spot {
         Some(spot) => format!(in alloc; " at {spot}"),
         None => Ok(String::new(alloc)),
+    }
+}
+
+/// Returns a text with its control characters escaped.
+fn printable(alloc: Global, text: &str) -> Result<String, AllocError> {
+    let mut printed = String::new(alloc);
+    match put_printable(&mut printed, text) {
+        Ok(()) => Ok(printed),
+        Err(_) => Err(AllocError),
     }
 }
 
@@ -106,6 +116,7 @@ fn report_unknown(
     let place = place_words(rt.alloc(), spot)?;
     let hint = suggestion_words(rt.alloc(), plan, part, name)?;
     let word = part_word(part);
+    let name = printable(rt.alloc(), name)?;
     let _ = eprintln!(rt; "error: {path}: no {word} named \"{name}\"{place}{hint}");
     Ok(())
 }
@@ -122,7 +133,9 @@ fn report_rule(
     spot: Option<Spot>,
 ) -> Result<(), AllocError> {
     let place = place_words(rt.alloc(), spot)?;
-    let _ = eprintln!(rt; "error: {path}: {fault}{place}");
+    let text = format!(in rt.alloc(); "{fault}")?;
+    let text = printable(rt.alloc(), text.as_str())?;
+    let _ = eprintln!(rt; "error: {path}: {text}{place}");
     Ok(())
 }
 

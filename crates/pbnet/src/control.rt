@@ -92,8 +92,8 @@ fn ended(rt: &(impl Print + Eprint), path: &str, outcome: Result<u8, ControlFaul
         Ok(status) => {
             let _ = eprintln!(rt;
                 "error: {path}: the run refused a command\n\
-                 hint: the commands are stop, counts, tree, down NAME and up NAME; NAME is a link, a bridge or \
-                 BRIDGE:PORT, and tree lists each BRIDGE with its PORTs"
+                 hint: the commands are stop, counts, tree, drops, help, down NAME and up NAME; NAME is a link, a bridge \
+                 or BRIDGE:PORT, and tree lists each BRIDGE with its PORTs"
             );
             ExitCode::from(status)
         }

@@ -81,21 +81,23 @@ impl<'a, R: Clock + Eprint> RunMonitor<'a, R> {
         }
     }
 
-    /// Reports how many frames entered and left, how many copies could not be queued, and the ticks of the clock.
+    /// Reports how many frames entered, left and were dropped, how many copies could not be queued, and the ticks of the
+    /// clock.
     fn show(&self) {
         let (entered, left) = (self.traffic.entered(), self.traffic.left());
-        let (refused, ticks) = (self.traffic.refused(), self.traffic.ticks());
+        let (dropped, refused) = (self.traffic.dropped(), self.traffic.refused());
+        let ticks = self.traffic.ticks();
         match self.shown {
             Shown::Never => {}
             Shown::OneLine => {
                 let _ = eprint!(self.rt;
-                    "\r{entered} frames entered, {left} left, {refused} copies refused, tick {ticks}"
+                    "\r{entered} frames entered, {left} left, {dropped} dropped, {refused} copies refused, tick {ticks}"
                 );
                 self.lines.store(1, Ordering::SeqCst);
             }
             Shown::Lines => {
                 let _ = eprintln!(self.rt;
-                    "{entered} frames entered, {left} left, {refused} copies refused, tick {ticks}"
+                    "{entered} frames entered, {left} left, {dropped} dropped, {refused} copies refused, tick {ticks}"
                 );
             }
         }
@@ -144,6 +146,11 @@ impl<R: Clock + Eprint + Sync> RunProgress for RunMonitor<'_, R> {
         if self.lines.swap(0, Ordering::SeqCst) != 0 {
             let _ = eprintln!(self.rt; "");
         }
+    }
+
+    /// Returns the second of the monotonic clock at the latest look.
+    fn seconds(&self) -> u64 {
+        self.second.load(Ordering::SeqCst)
     }
 
     /// Reports on a line of its own that the peer of a port came or left.

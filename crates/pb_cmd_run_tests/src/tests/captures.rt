@@ -2,7 +2,8 @@
 
 use super::folder::{Contents, enter, leave, make, wrong};
 use super::plans::NO_FRAMES;
-use super::{Row, Told, check};
+use super::{Row, Told, check_under};
+use pb_cmd_run::Strictness;
 use std::fs::Files;
 use std::test::Fail;
 use std::{fs, io};
@@ -196,6 +197,10 @@ const ROW: Row = Row {
     report: REPORT,
 };
 
+/// What standard error has of the run: the ring has one blocked port, at which copies of all frames end.
+const DROPPED: &str = "bridge Station port 1: 5 frames dropped: no-port\n\
+    bridge Station port 2: 5 frames dropped: not-forwarding\n";
+
 /// The captures that are read.
 const READ: Contents = &[
     ("examples/captures/provider.pcap", PROVIDER),
@@ -223,7 +228,7 @@ fn the_captures_of_the_example_are_carried(rt: HostRuntime) -> Result<(), Fail> 
     enter(&rt, rt.process())?;
     make_folders(&rt)?;
     make(&rt, READ)?;
-    check(&rt, rt.alloc(), &ROW)?;
+    check_under(&rt, rt.alloc(), &ROW, Strictness::Strict, DROPPED)?;
     assert_eq!(rt; wrong(&rt, WRITTEN), "");
     leave(&rt, rt.process())?;
     Ok(())

@@ -2,8 +2,8 @@
 
 use super::folder::{Contents, enter, has, is_missing, leave, make, wrong};
 use super::plans::{
-    CAPTURES, FULL, LINKED, NO_FRAMES, ONE_FRAME, OVER, PATHS, SAME, TICKS, TWICE, UNLISTENED,
-    UNMADE,
+    CAPTURES, FORGED, FULL, LINKED, NO_FRAMES, ONE_FRAME, OVER, PATHS, SAME, TICKS, TWICE,
+    UNLISTENED, UNMADE,
 };
 use super::sheet::Sheet;
 use super::{Door, Manner, NetworkFault, PLAIN, Row, Told, check_under, run, run_past};
@@ -244,6 +244,13 @@ const REFUSED: &[Refused] = &[
         path: "plan.toml",
         plan: UNLISTENED,
         told: b"error: port P1: read paths.none: No such file or directory (os error 2)\n",
+        missing: "paths.last",
+    },
+    // A path with control characters is printed on one line.
+    Refused {
+        path: "plan.toml",
+        plan: FORGED,
+        told: b"error: port P1: read paths.none/a\\nport P2: x\\u001b[31m: No such file or directory (os error 2)\n",
         missing: "paths.last",
     },
 ];

@@ -260,6 +260,25 @@ read = "paths.none"
 write = "paths.out"
 "#;
 
+/// One bridge with a capture that can't be read. Its path has a line feed and an escape character.
+pub(super) const FORGED: &str = r#"
+[[bridge]]
+name = "B1"
+address = "02-00-00-00-00-01"
+
+[[service]]
+name = "red"
+vid = 100
+
+[[port]]
+name = "P1"
+bridge = "B1"
+port = 1
+service = "red"
+kind = "replay"
+read = "paths.none/a\nport P2: x\u001b[31m"
+"#;
+
 /// One bridge with a memory port and a socket that is made. Workers take a limited number of turns.
 pub(super) const LISTENER: &str = r#"
 [network]
@@ -422,4 +441,40 @@ at = 1
 bridge = "B1"
 port = 1
 up = true
+"#;
+
+/// A pair of bridges, of which the second does not list the service on its end of the link.
+pub(super) const UNLISTED: &str = r#"
+[[bridge]]
+name = "B1"
+address = "02-00-00-00-00-01"
+
+[[bridge]]
+name = "B2"
+address = "02-00-00-00-00-02"
+
+[[link]]
+name = "L1"
+a = "B1"
+a_port = 1
+b = "B2"
+b_port = 1
+b_services = []
+
+[[service]]
+name = "red"
+vid = 100
+
+[[port]]
+name = "C1"
+bridge = "B1"
+port = 2
+service = "red"
+in = ["ffffffffffff02000000010108004142", "0180c200000e02000000010188cc4142"]
+
+[[port]]
+name = "C2"
+bridge = "B2"
+port = 2
+service = "red"
 "#;

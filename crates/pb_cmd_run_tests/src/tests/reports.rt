@@ -1,6 +1,6 @@
 //! Reports of runs over memory.
 
-use super::plans::{LOSSY, NEVER, NO_TURN, ONE_STEP, RSTP, SET_DOWN};
+use super::plans::{LOSSY, NEVER, NO_TURN, ONE_STEP, RSTP, SET_DOWN, UNLISTED};
 use super::{PLAIN, Row, Told, check, check_under, run};
 use pb_cmd_run::{NetworkFault, Strictness};
 use pb_fakes::plans::PAIR;
@@ -83,7 +83,7 @@ const EVENTS: &[(Row, &str)] = &[
             report: "ended drained\nport C1 entered 3 left 0 filtered 0\nport C2 entered 0 left 0 filtered 0\n\
                 port C3 entered 0 left 0 filtered 0\nlink L1 ab taken 0 lost 0 ba taken 0 lost 0\nforest yes\n",
         },
-        "warning: 1 event did not take place\n",
+        "bridge B1 port 2: 3 frames dropped: no-port\nwarning: 1 event did not take place\n",
     ),
     (
         Row {
@@ -120,10 +120,19 @@ const UNSETTLED: Row = Row {
         port C3 entered 0 left 0 filtered 0\nlink L1 ab taken 0 lost 0 ba taken 0 lost 0\nforest yes\nsettled no\n",
 };
 
+/// What standard error has of such a run. The tree has no way from C1.
+const UNSETTLED_LINES: &str =
+    "bridges not converged\nbridge B1 port 2: 3 frames dropped: no-port\n";
+
 #[test]
 fn bridges_that_have_not_settled_are_told(rt: HostRuntime) -> Result<(), Fail> {
-    let remarks = "bridges not converged\n";
-    check_under(&rt, rt.alloc(), &UNSETTLED, Strictness::Lenient, remarks)
+    check_under(
+        &rt,
+        rt.alloc(),
+        &UNSETTLED,
+        Strictness::Lenient,
+        UNSETTLED_LINES,
+    )
 }
 
 /// Returns the same run, with the status of a strict one.
@@ -144,8 +153,28 @@ fn strict_runs_have_a_status_of_their_own(rt: HostRuntime) -> Result<(), Fail> {
         check_under(&rt, rt.alloc(), &row, Strictness::Strict, "")?;
     }
     let row = strictly(&UNSETTLED, 4);
-    let remarks = "bridges not converged\n";
-    check_under(&rt, rt.alloc(), &row, Strictness::Strict, remarks)
+    check_under(&rt, rt.alloc(), &row, Strictness::Strict, UNSETTLED_LINES)
+}
+
+/// A broadcast that the second bridge drops, and a frame for a reserved address that the first one drops.
+const UNLISTED_END: Row = Row {
+    parts: ["", UNLISTED],
+    told: Told {
+        result: Ok(0),
+        traffic: (2, 0),
+        closed: 1,
+    },
+    report: "ended drained\nport C1 entered 2 left 0 filtered 1\nport C2 entered 0 left 0 filtered 0\n\
+        link L1 ab taken 1 lost 0 ba taken 0 lost 0\nforest yes\n",
+};
+
+#[test]
+fn dropped_frames_are_counted_by_reason(rt: HostRuntime) -> Result<(), Fail> {
+    let lines =
+        "bridge B2 port 1: 1 frames dropped: not-member\nbridge B1 port 2: 1 frames dropped: reserved\n";
+    check_under(&rt, rt.alloc(), &UNLISTED_END, Strictness::Lenient, lines)?;
+    let row = strictly(&UNLISTED_END, 4);
+    check_under(&rt, rt.alloc(), &row, Strictness::Strict, lines)
 }
 
 #[test]

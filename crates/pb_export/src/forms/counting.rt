@@ -56,6 +56,20 @@ const CAUSES: &[Choice] = choices![
     ("memory", Said::Word("memory")),
 ];
 
+/// Why a bridge dropped frames.
+const REASONS: &[Choice] = choices![
+    ("not-forwarding", Said::Word("not-forwarding")),
+    ("not-member", Said::Word("not-member")),
+    ("untagged", Said::Word("untagged")),
+    ("reserved", Said::Word("reserved")),
+    ("malformed", Said::Word("malformed")),
+    ("worn", Said::Word("worn")),
+    ("memory", Said::Word("memory")),
+    ("s-tagged", Said::Word("s-tagged")),
+    ("long", Said::Word("long")),
+    ("no-port", Said::Word("no-port")),
+];
+
 /// The uses that a customer port makes of a path.
 const USES: &[Choice] = choices![
     ("read", Said::Word("read")),
@@ -104,6 +118,14 @@ const UNLEARNT: &[Slot] = slots![
     ("cause", Kind::OneOf(CAUSES), ""),
 ];
 
+/// The frames that a bridge dropped at a port.
+const DROPPED: &[Slot] = slots![
+    ("bridge", Kind::Text, " port "),
+    ("bridge_port", Kind::Number, ": "),
+    ("count", Kind::Number, " frames dropped: "),
+    ("reason", Kind::OneOf(REASONS), ""),
+];
+
 /// The bridges have not converged.
 const UNSETTLED: &[Slot] = slots![("what", Kind::OneOf(CONVERGENCE), ""),];
 
@@ -138,6 +160,7 @@ const RUN_LINES: &[Template] = &[
     template!("losses", "bridge ", UNQUEUED),
     template!("losses", "bridge ", UNLEARNT),
     template!("losses", "", UNSETTLED),
+    template!("drops", "bridge ", DROPPED),
     template!("paths", "error: port ", PORT_PATH),
     template!("paths", "error: cannot ", CONTROL_PATH),
     template!("warnings", "warning: ", WARNING),
@@ -173,6 +196,7 @@ const RUN_LISTS: &[ListForm] = &[
     LOOPS,
     list!("port_faults", ListShape::Objects, &[]),
     list!("losses", ListShape::Objects, &[]),
+    list!("drops", ListShape::Objects, &[]),
     list!("paths", ListShape::Objects, &[]),
     list!("warnings", ListShape::Objects, &[]),
     PLAN_FAULTS,

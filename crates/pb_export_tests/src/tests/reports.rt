@@ -32,7 +32,8 @@ const ACCEPTED: &str =
 /// A run with losses, and with paths that it could not use.
 const LOST: &str =
     "ended drained\nport C1: 3 frames not written\nbridge B2 port 1: 2571 copies not queued: full\n\
-    bridge B2 port 1: 4 BPDUs not queued: memory\nbridge B2: 17 sources not learnt: full\nbridges not converged\n\
+    bridge B2 port 1: 4 BPDUs not queued: memory\nbridge B2: 17 sources not learnt: full\n\
+    bridge B2 port 3: 6 frames dropped: not-member\nbridge B2 port 3: 2 frames dropped: no-port\nbridges not converged\n\
     error: port C1: write out/a.pcap: also the plan file\nerror: port C2: cannot read in.pcap: it is a pcapng file\n\
     error: cannot create control socket out/net: File exists\nwarning: 1 event did not take place\nhint: convert it\n";
 
@@ -95,18 +96,18 @@ pub(super) const RUNS: &[Said] = &[
         json: r#"{"ended": "limit", "ports": [{"name": "C1", "entered": 2, "left": 1, "filtered": 0}],
             "links": [{"name": "L1", "ab_taken": 3, "ab_lost": 1, "ba_taken": 4, "ba_lost": 0}], "forest": false,
             "loops": ["red", "blue"], "settled": false, "port_faults": [{"port": "C1", "code": 13}],
-            "losses": [], "paths": [], "warnings": [],
+            "losses": [], "drops": [], "paths": [], "warnings": [],
             "fault": "memory"}"#,
     },
     Said {
         text: "port C1 entered 18446744073709551615 left 0 filtered 007\n",
-        json: r#"{"ports": [], "links": [], "loops": [], "port_faults": [], "losses": [], "paths": [], "warnings": [],
+        json: r#"{"ports": [], "links": [], "loops": [], "port_faults": [], "losses": [], "drops": [], "paths": [], "warnings": [],
             "other": ["port C1 entered 18446744073709551615 left 0 filtered 007"]}"#,
     },
     Said {
         text: "port C1 entered 18446744073709551615 left 0 filtered 7\nfault: spawn\n",
         json: r#"{"ports": [{"name": "C1", "entered": 18446744073709551615, "left": 0, "filtered": 7}], "links": [],
-            "loops": [], "port_faults": [], "losses": [], "paths": [], "warnings": [], "fault": "spawn"}"#,
+            "loops": [], "port_faults": [], "losses": [], "drops": [], "paths": [], "warnings": [], "fault": "spawn"}"#,
     },
     Said {
         text: LOST,
@@ -116,6 +117,8 @@ pub(super) const RUNS: &[Said] = &[
                 {"bridge": "B2", "bridge_port": 1, "count": 4, "what": "BPDUs not queued", "cause": "memory"},
                 {"bridge": "B2", "count": 17, "what": "sources not learnt", "cause": "full"},
                 {"what": "bridges not converged"}],
+            "drops": [{"bridge": "B2", "bridge_port": 3, "count": 6, "reason": "not-member"},
+                {"bridge": "B2", "bridge_port": 3, "count": 2, "reason": "no-port"}],
             "paths": [{"port": "C1", "use": "write", "path": "out/a.pcap", "why": "also the plan file"},
                 {"port": "C2", "use": "read", "path": "in.pcap", "why": "it is a pcapng file"},
                 {"use": "control", "path": "out/net", "why": "File exists"}],
@@ -188,8 +191,17 @@ pub(super) const TREES: &[Said] = &[
     },
 ];
 
-/// Reports of `survive` on networks with something down at the start.
+/// Reports of `survive` on networks with something down at the start, or with a service without ports.
 pub(super) const IMPAIRED: &[Said] = &[
+    Said {
+        text: "nothing down: states given forest yes\n  service red:\nservice red has fewer than two ports\n\
+            not healthy with nothing down: 1 service\nchecked 0 links\n\
+            not healthy with nothing down: 1 service\n",
+        json: r#"{"nothing_down": {"forest": true, "loops": [], "services": [{"name": "red", "groups": []}],
+                "unhealthy": [{"service": "red", "fault": "too few ports"}]},
+            "acceptances": [], "failures": [], "healthy": false, "checked_links": 0, "unhealthy_services": 1,
+            "survives": false}"#,
+    },
     Said {
         text: "down: ring1 South\nnothing else down: settled ticks 3 forest yes\n  service red: C1 C2\n\
             healthy with nothing else down\nlink ring2 down: settled ticks 4 forest yes\n  service red: C1 | C2\n\

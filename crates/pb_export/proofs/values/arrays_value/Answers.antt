@@ -1,7 +1,7 @@
 use Rattle.std.proofs.Common.{ap, ◌∙◌}
 use Rattle.pb_export.specs.Documents.{words_data}
 use Rattle.pb_export.proofs.ValueLemmas.{values_more}
-use Rattle.pb_export.proofs.values.groups_value.Goals as goal
+use Rattle.pb_export.proofs.values.arrays_value.Goals as goal
 
 pub loop-group-preserved : goal.loop-group-preserved
 loop-group-preserved c =
