@@ -1,6 +1,7 @@
 -- The output for a plan file, with the forest after convergence.
 use Rattle.std.specs.Prelude.{◌≡◌, ◌⊎◌, ℕ, List, ◌++◌, codes}
 use Rattle.pb_converge.specs.Drives.{HasRested}
+use Rattle.pb_converge.specs.Enough.{HasEnoughMemory}
 use Rattle.pb_converge.specs.Falls.{fresh}
 use Rattle.pb_converge.specs.Rests.{rest_line}
 use Rattle.pb_converge.specs.declared.rest.Rest.{Rest}
@@ -14,11 +15,13 @@ use Rattle.pb_service.specs.PlanFiles.{Tells, IsPlanOf}
 use Rattle.pb_service.specs.declared.port_spec.PortSpec.{PortSpec}
 use Rattle.pb_cmd_check.specs.Checks.{plan_line}
 
--- each bridge ticks at most so many times, and the text says whether the states at the end are a forest
+-- each bridge ticks at most so many times, no allocation fails, and the text says whether the states at the end are a
+-- forest
 pub record IsSettledText (plan : Plan) (ticks : ℕ) (text : List ℕ) : Type 0 where
   pub last : NetView
   pub rest : Rest
   pub rested : HasRested ticks 1000000000 rest (fresh plan) last
+  pub enough : HasEnoughMemory last.rec
   pub forest : List ℕ
   pub is_forest : IsForestText plan (last_shape plan last.rec) forest
   pub text_is : text ≡ rest_line rest ++ codes "settled " ++ forest

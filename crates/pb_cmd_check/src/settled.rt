@@ -71,9 +71,9 @@ fn put_settled_check(
 ///
 /// # Errors
 ///
-/// `Memory` if an allocation failed, and `Steps` if a place would take more steps than the plan allows or more than
-/// 1,000,000,000 events are due. Nothing was written then. `Write` if the write failed, and then it is not known how
-/// much was written. `Read` never comes.
+/// `Memory` if an allocation failed, also in a bridge, which then drops what it can't store. Else `Steps` if a place
+/// would take more steps than the plan allows or more than 1,000,000,000 events are due. Nothing was written then.
+/// `Write` if the write failed, and then it is not known how much was written. `Read` never comes.
 pub fn run_settled_check<W: Write>(
     alloc: Global,
     file: &[u8],

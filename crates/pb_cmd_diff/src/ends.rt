@@ -2,6 +2,7 @@
 
 ghost use Rattle.std.specs.Prelude.{◌≡◌, [], map, length, IfOk};
 ghost use Rattle.pb_cmd_survive.specs.Impacts.{IsStanding};
+ghost use Rattle.pb_converge.specs.Enough.{HasEnoughMemory};
 ghost use Rattle.pb_lan.specs.Plans.{IsSound, IsNumber};
 ghost use Rattle.pb_lan.specs.Records.{IsLawfulRecord};
 ghost use Rattle.pb_relay.specs.Protocol.{spanning_tree};
@@ -10,7 +11,7 @@ ghost use Rattle.pb_cmd_diff.specs.Ends.{computed_at, protocol_end, given_at, gi
 ghost use Rattle.pb_cmd_diff.specs.Ends.{AreEnds};
 
 use pb_cmd_survive::Standing;
-use pb_converge::{copied, shape_of};
+use pb_converge::{check_memory, copied, shape_of};
 use pb_forest::state_in;
 use pb_frame::Memory;
 use pb_lan::{End, Plan, PortState, Shape, Spanning};
@@ -108,11 +109,12 @@ fn ends_in(alloc: Global, net: Net, plan: &Plan) -> Result<Vec<LinkEnds>, Memory
     requires plan { net.plan ≡ plan.now }
     ensures ends { IfOk result (λ ends. ends.items ≡ ends_by plan.now.spanning plan.now net.rec) }
     ensures lawful { IfOk result (λ _. IsLawfulRecord spanning_tree net.plan net.rec) }
+    ensures enough { IfOk result (λ _. HasEnoughMemory net.rec) }
 {
     match plan.spanning {
         Spanning::Rstp => {
             let ends = protocol_ends(alloc, &net, plan)?;
-            let _rec = net.finish();
+            check_memory(alloc, &net.finish())?;
             Ok(ends)
         }
         Spanning::Fixed => {
@@ -128,7 +130,7 @@ fn ends_in(alloc: Global, net: Net, plan: &Plan) -> Result<Vec<LinkEnds>, Memory
 ///
 /// # Errors
 ///
-/// `Memory` if an allocation failed.
+/// `Memory` if an allocation failed, also in a bridge.
 pub fn ends_of(alloc: Global, standing: &Standing<'_>) -> Result<Vec<LinkEnds>, Memory>
     requires up { IsStanding standing.now }
     requires whole { standing.now.names.now ≡ [] }

@@ -3,6 +3,7 @@ use Rattle.std.specs.Prelude.{◌≡◌, ◌⊎◌, ℕ, Bool, true, false, List
 use Rattle.std.specs.Borrow.{Bor}
 use Rattle.std.specs.Io.KnownBytes.{Appends}
 use Rattle.std.specs.declared.option.Option.{Option}
+use Rattle.pb_converge.specs.Enough.{HasEnoughMemory}
 use Rattle.pb_converge.specs.Falls.{HaveFallen, IsRefused, fresh}
 use Rattle.pb_lan.specs.LastShapes.{last_shape}
 use Rattle.pb_lan.specs.Records.{IsLawfulRecord}
@@ -47,11 +48,13 @@ pub record IsPictureOf (plan : Plan) (shape : Shape) (chosen : Option ℕ) (form
   pub text_is : text ≡ picture_text format plan scene
 
 -- each bridge ticks at most so many times, and the picture has the states at the end, which are those of a lawful record
+-- in which no allocation failed
 pub record IsDrawingFrom (plan : Plan) (asked : Asked) (fallen : NetView) (rest : Rest) (text : List ℕ) : Type 0 where
   pub last : NetView
   pub rested : HasRested asked.ticks 1000000000 rest fallen last
   pub planned : last.plan ≡ plan
   pub lawful : IsLawfulRecord spanning_tree plan last.rec
+  pub enough : HasEnoughMemory last.rec
   pub picture : IsPictureOf plan (last_shape plan last.rec) (chosen_of plan asked.service) asked.format text
 
 -- what the names disable is disabled first

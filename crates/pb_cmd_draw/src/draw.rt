@@ -3,6 +3,7 @@
 ghost use Rattle.std.specs.Prelude.{◌≡◌, ◌≢◌, ◌++◌, List, ℕ, true, string_bytes, IfOk, IfErr, OnOk};
 ghost use Rattle.std.specs.Io.KnownBytes.{Appends, Keeps};
 ghost use Rattle.pb_converge.specs.Drives.{IsCaused, ReachesLimit};
+ghost use Rattle.pb_converge.specs.Enough.{HasEnoughMemory};
 ghost use Rattle.pb_converge.specs.Falls.{fresh};
 ghost use Rattle.pb_lan.specs.LastShapes.{last_shape};
 ghost use Rattle.pb_lan.specs.Plans.{IsSound};
@@ -80,7 +81,8 @@ fn put_last(
     format: Format,
 ) -> Result<(), Memory>
     requires { IsSound plan.now }
-    ensures { OnOk result ((text : List ℕ) × (string_bytes out.new ≡ string_bytes out.old ++ text)
+    ensures enough { OnOk result (HasEnoughMemory rec.now) }
+    ensures picture { OnOk result ((text : List ℕ) × (string_bytes out.new ≡ string_bytes out.old ++ text)
         × IsPictureOf plan.now (last_shape plan.now rec.now) chosen format text) }
 {
     let shape = shape_of(alloc, plan, rec)?;
@@ -180,8 +182,8 @@ fn draw<W: Write>(
 /// Each of `asked.downs` names a link, a bridge, or a port to another bridge as `BRIDGE:PORT`, as [`disables`]
 /// describes. If the bridges run the rapid spanning tree (IEEE 802.1D-2004 clause 17), each takes at most `asked.ticks`
 /// ticks (seconds). The picture has the states at the end of a lawful record of that network, as [`Net::finish`]
-/// returns it, converged or not, and `Drawn` has which. [`scene_of`] decides what is drawn, [`put_svg`] and [`put_dot`]
-/// how.
+/// returns it, in which no allocation failed. `Drawn` has whether the bridges converged. [`scene_of`] decides what is
+/// drawn, [`put_svg`] and [`put_dot`] how.
 ///
 /// If the file is not a valid plan, the line `plan: N WORD` is written, as `check` prints it, and `Refused` is
 /// returned. `NoService` is returned if the plan lacks the service, and else `NoDown` if a name of `asked.downs` is
@@ -189,9 +191,9 @@ fn draw<W: Write>(
 ///
 /// # Errors
 ///
-/// `Memory` if an allocation failed, and `Steps` if a place would take more steps than the plan allows or more than
-/// 1,000,000,000 events are due. Nothing was written then. `Write` if a write failed; what was written is unknown then.
-/// `Read` never comes.
+/// `Memory` if an allocation failed, also in a bridge, which then drops what it can't store. `Steps` if a place would
+/// take more steps than the plan allows or more than 1,000,000,000 events are due, and no allocation failed. Nothing
+/// was written then. `Write` if a write failed; what was written is unknown then. `Read` never comes.
 pub fn run_draw<W: Write>(
     alloc: Global,
     file: &[u8],

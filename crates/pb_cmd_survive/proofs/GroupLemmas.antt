@@ -17,7 +17,8 @@ use Rattle.pb_lan.specs.declared.shape.Shape.{Shape}
 use Rattle.pb_cmd_survive.specs.Failures.{is_out}
 use Rattle.pb_cmd_survive.specs.Groups.{ports_from, ports_of, is_port_out, AreGroups, color_by, color_of, lead_of}
 use Rattle.pb_cmd_survive.specs.Groups.{site_of}
-use Rattle.pb_cmd_survive.specs.Reach.{CanReach, mark_at, TellsJoined}
+use Rattle.pb_joins.specs.Joins.{mark_at}
+use Rattle.pb_cmd_survive.specs.Reach.{CanReach, TellsJoined}
 use Rattle.pb_cmd_survive.specs.declared.failure.Failure.{Failure}
 use Rattle.pb_cmd_survive.specs.declared.sites.Site.{Site}
 

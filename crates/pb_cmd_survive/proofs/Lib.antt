@@ -1,5 +1,5 @@
 pub mod ListLemmas
-pub mod WalkLemmas
+pub mod JoinLemmas
 pub mod GroupLemmas
 pub mod DriveLemmas
 pub mod StandingLemmas

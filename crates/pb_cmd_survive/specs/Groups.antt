@@ -2,12 +2,13 @@
 use Rattle.std.specs.Prelude.{◌≡◌, ◌≤◌, ◌↔◌, ℕ, ◌+◌, Bool, false, List, [], ◌∷◌, Some, None, map, unwrap_or, ◌==◌, if◌then◌else◌, Contains}
 use Rattle.std.specs.declared.option.Option.{Option}
 use Rattle.pb_frame.specs.Lists.{first}
+use Rattle.pb_joins.specs.Joins.{mark_at}
 use Rattle.pb_lan.specs.Numbering.{numbered}
 use Rattle.pb_lan.specs.declared.plan.Plan.{Plan}
 use Rattle.pb_lan.specs.declared.plan.CustomerPlan.{CustomerPlan}
 use Rattle.pb_lan.specs.declared.shape.Shape.{Shape}
 use Rattle.pb_cmd_survive.specs.Failures.{is_out}
-use Rattle.pb_cmd_survive.specs.Reach.{CanReach, mark_at}
+use Rattle.pb_cmd_survive.specs.Reach.{CanReach}
 use Rattle.pb_cmd_survive.specs.declared.failure.Failure.{Failure}
 use Rattle.pb_cmd_survive.specs.declared.sites.Site.{Site}
 

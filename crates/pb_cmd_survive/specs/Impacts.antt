@@ -3,6 +3,7 @@ use Rattle.std.specs.Prelude.{◌≡◌, ℕ, List, Result, Ok, Err}
 use Rattle.std.specs.Global.{Global}
 use Rattle.std.specs.declared.string.String.{String}
 use Rattle.std.specs.List.{AllZip}
+use Rattle.pb_converge.specs.Enough.{HasEnoughMemory}
 use Rattle.pb_converge.specs.Falls.{HaveFallen, IsRefused}
 use Rattle.pb_lan.specs.LastShapes.{last_shape}
 use Rattle.pb_lan.specs.Plans.{IsSound}
@@ -67,13 +68,14 @@ IsDriven plan names most events (Pair first second) rest new = IsFailed plan nam
 IsDriven plan names most events (Bridge number) rest new = IsFailed plan names most events (Bridge number) rest new
 
 -- The impact of a failure is that of the last shape of a lawful record of the plan's network, in which what the names
--- disable was down before, and which was driven into it.
+-- disable was down before, and which was driven into it. No allocation failed in the record.
 pub record IsImpact (plan : Plan) (names : List (String Global)) (services : List ℕ) (most events : ℕ) (failure : Failure) (impact : Impact) : Type 0 where
   pub failed : impact.failure ≡ failure
   pub last : NetView
   pub driven : IsDriven plan names most events failure impact.rest last
   pub planned : last.plan ≡ plan
   pub lawful : IsLawfulRecord spanning_tree plan last.rec
+  pub enough : HasEnoughMemory last.rec
   pub views : AreViews plan (last_shape plan last.rec) failure services impact.views
 
 -- the impact of a failure on a network that is up

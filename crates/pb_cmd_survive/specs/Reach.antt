@@ -1,5 +1,6 @@
 -- Which bridges and customer ports reach each other.
-use Rattle.std.specs.Prelude.{◌≡◌, ◌⊎◌, ◌↔◌, ℕ, ◌-◌, false, List, Some, slice_index}
+use Rattle.std.specs.Prelude.{◌≡◌, ◌⊎◌, ◌↔◌, ℕ, false, List, Some}
+use Rattle.pb_joins.specs.Joins.{mark_at}
 use Rattle.pb_lan.specs.Forests.{AreJoined}
 use Rattle.pb_lan.specs.Numbering.{numbered}
 use Rattle.pb_lan.specs.Plans.{IsNumber}
@@ -22,10 +23,6 @@ pub record AreLinked (plan : Plan) (shape : Shape) (failure : Failure) (vid p q 
 -- a customer port reaches itself, and those to which it is linked
 abbrev pub CanReach : Plan → Shape → Failure → ℕ → ℕ → ℕ → Type 0
 CanReach plan shape failure vid p q = (p ≡ q) ⊎ AreLinked plan shape failure vid p q
-
--- the mark of a bridge
-abbrev pub mark_at : List ℕ → ℕ → ℕ
-mark_at marks bridge = slice_index marks (bridge - 1)
 
 -- two bridges have one mark if and only if active links join them
 abbrev pub TellsJoined : Plan → Shape → ℕ → List ℕ → Type 0

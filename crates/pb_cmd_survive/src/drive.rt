@@ -8,7 +8,7 @@ ghost use Rattle.pb_cmd_survive.specs.Impacts.{IsDriven, IsFailed, IsStanding};
 
 use crate::failure::Failure;
 use crate::standing::Standing;
-use pb_converge::{DriveFault, Rest, copied, settle};
+use pb_converge::{DriveFault, Rest, copied, fault_in, settle};
 use pb_frame::Memory;
 use pb_lan::{End, Event, LinkPlan, Plan};
 use pb_net::{Net, NetFault};
@@ -76,7 +76,7 @@ fn take_down(alloc: Global, net: &mut Net, plan: &Plan, failure: Failure) -> Res
     match net.run(events.as_slice()) {
         Ok(()) => Ok(()),
         Err((_, NetFault::Memory)) => Err(DriveFault::Memory),
-        Err((_, NetFault::StepLimit)) => Err(DriveFault::Steps),
+        Err((_, NetFault::StepLimit)) => Err(fault_in(net, plan, DriveFault::Steps)),
         Err((_, NetFault::NoSuch)) => unreachable!(),
     }
 }

@@ -14,7 +14,6 @@ mod health;
 mod impact;
 mod judgement;
 mod look;
-mod marks;
 mod parallel;
 mod parting;
 mod progress;

@@ -2,6 +2,7 @@
 
 ghost use Rattle.std.specs.List.{AllZip};
 ghost use Rattle.std.specs.Prelude.{◌≡◌, IfOk};
+ghost use Rattle.pb_converge.specs.Enough.{HasEnoughMemory};
 ghost use Rattle.pb_lan.specs.Plans.{IsSound};
 ghost use Rattle.pb_cmd_survive.specs.Impacts.{IsImpactOn, IsStanding};
 ghost use Rattle.pb_lan.specs.LastShapes.{last_shape};
@@ -29,7 +30,8 @@ fn last_views(
     services: &[u8],
 ) -> Result<Seq<View>, Memory>
     requires { IsSound plan.now }
-    ensures { IfOk result (AreViews plan.now (last_shape plan.now rec.now) failure services.now) }
+    ensures enough { IfOk result (λ _. HasEnoughMemory rec.now) }
+    ensures views { IfOk result (AreViews plan.now (last_shape plan.now rec.now) failure services.now) }
 {
     let shape = shape_of(alloc, plan, rec)?;
     views(alloc, plan, &shape, failure, services)
@@ -41,12 +43,12 @@ fn last_views(
 /// 802.1D-2004 clause 17). The ticks of the impact are those after the failure. With [`Failure::Nothing`] the impact is
 /// that of the network when its bridges had converged. If the plan gives the states of the ports, no bridge ticks: a
 /// disabled port is Discarding, and all others keep their state. The active links and the groups are those of the
-/// states at the end.
+/// states at the end. No allocation failed before.
 ///
 /// # Errors
 ///
-/// `Memory` if an allocation failed, `Steps` if a place would take more steps than the plan allows, and `Events` if
-/// more events are due than the network's patience allows.
+/// `Memory` if an allocation failed, also in a bridge, which then drops what it can't store. Else `Steps` if a place
+/// would take more steps than the plan allows, and `Events` if more events are due than the network's patience allows.
 pub fn look_at(
     alloc: Global,
     standing: &Standing<'_>,

@@ -1,16 +1,18 @@
 //! The customer ports of a service, in groups that reach each other.
 
-ghost use Rattle.std.specs.Prelude.{◌≡◌, ◌<◌, map, length, IfOk};
+ghost use Rattle.std.specs.Prelude.{◌≡◌, ◌<◌, ℕ, map, length, IfOk};
 ghost use Rattle.pb_forest.specs.ServiceVids.{vid_numbered};
 ghost use Rattle.pb_lan.specs.Plans.{IsSound};
 ghost use Rattle.pb_cmd_survive.specs.Failures.{is_out};
 ghost use Rattle.pb_cmd_survive.specs.Groups.{ports_of, is_port_out, color_of, lead_of, site_of, AreGroups};
+ghost use Rattle.pb_cmd_survive.specs.Reach.{TellsJoined};
+ghost use Rattle.pb_joins.specs.Joins.{mark_at};
 
 use crate::failure::Failure;
-use crate::marks::marks;
-use pb_forest::{numbered, vid_numbered};
+use pb_forest::{is_active, numbered, vid_numbered};
 use pb_frame::{Memory, index_of};
-use pb_lan::{Plan, Shape};
+use pb_joins::marks;
+use pb_lan::{LinkPlan, Plan, Shape};
 use std::alloc::Global;
 
 /// A customer port and its group.
@@ -46,6 +48,15 @@ fn ports_of(alloc: Global, plan: &Plan, service: u8) -> Result<Vec<u8>, Memory>
         }
     }
     Ok(ports)
+}
+
+/// Returns a mark for each bridge. Two bridges have the same mark if and only if active links of the service join them.
+fn marks_by(plan: &Plan, shape: &Shape, vid: u16) -> [u8; 32]
+    requires { IsSound plan.now }
+    ensures joined { TellsJoined plan.now shape.now vid result }
+    ensures below { (bridge : ℕ) → mark_at result bridge < 32 }
+{
+    marks(plan, &|link: &LinkPlan| is_active(plan, shape, vid, link))
 }
 
 /// Returns a number that two customer ports share if and only if they reach each other: the mark of the bridge, or one
@@ -129,7 +140,7 @@ pub fn groups(
     ensures { IfOk result (λ sites.
         AreGroups plan.now shape.now failure service (vid_numbered plan.now service) sites.items) }
 {
-    let marks = marks(plan, shape, vid_numbered(plan, service));
+    let marks = marks_by(plan, shape, vid_numbered(plan, service));
     let ports = ports_of(alloc, plan, service)?;
     sites_of(alloc, plan, &marks, failure, ports.as_slice())
 }

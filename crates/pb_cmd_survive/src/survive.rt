@@ -263,9 +263,10 @@ fn put_survive<R: Threads + Sync, V: FailureProgress>(
 ///
 /// # Errors
 ///
-/// `Memory` if an allocation failed, and `Steps` if a place would take more steps than the plan allows or more than
-/// 1,000,000,000 events besides ticks are due until convergence. Nothing was written then. `Write` if a write failed;
-/// what was written is unknown then. `Read` never comes.
+/// `Memory` if an allocation failed, also in a bridge, which then drops what it can't store. Else `Steps` if a place
+/// would take more steps than the plan allows or more than 1,000,000,000 events besides ticks are due until
+/// convergence. Nothing was written then. `Write` if a write failed; what was written is unknown then. `Read` never
+/// comes.
 pub fn run_survive<R: Threads + Sync, V: FailureProgress, W: Write>(
     rt: &R,
     alloc: Global,

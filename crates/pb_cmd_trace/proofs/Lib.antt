@@ -1,2 +1,4 @@
 pub mod WalkLemmas
 pub mod StoryLemmas
+pub mod StartLemmas
+pub mod DoneLemmas

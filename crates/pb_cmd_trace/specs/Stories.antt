@@ -4,6 +4,7 @@ use Rattle.std.specs.Fmt.{decimal}
 use Rattle.pb_converge.specs.Rests.{rest_line}
 use Rattle.pb_frame.specs.Hex.{IsHex}
 use Rattle.pb_lan.specs.Events.{has_place}
+use Rattle.pb_lan.specs.Records.{IsLawfulRecord}
 use Rattle.pb_lan.specs.declared.event.Event.TheVariants.{Poll}
 use Rattle.pb_lan.specs.declared.plan.Plan.{Plan}
 use Rattle.pb_lan.specs.declared.step.Place.TheVariants.{Customer}
@@ -13,6 +14,7 @@ use Rattle.pb_names.specs.Numbers.{port_named}
 use Rattle.pb_net.specs.Answers.{NetView, IsAnswer}
 use Rattle.pb_net.specs.declared.did.Did.TheVariants.{Idle, Done}
 use Rattle.pb_net.specs.declared.fault.NetFault.TheVariants.{NoSuch}
+use Rattle.pb_relay.specs.Protocol.{spanning_tree}
 use Rattle.pb_step_script.specs.Answers.{idle_line, number_in}
 use Rattle.pb_converge.specs.Drives.{HasDrained, HasRested}
 use Rattle.pb_converge.specs.declared.rest.Rest.{Rest}
@@ -39,10 +41,11 @@ abbrev pub entry_number : Step → ℕ
 entry_number (Polled item) = number_in item.mark
 entry_number _ = 0
 
--- a frame was just injected at a customer port
+-- a frame was just injected at a customer port, and the record is lawful
 pub record IsEntry (plan : Plan) (port number : ℕ) (net : NetView) (text : List ℕ) : Type 0 where
   pub step : Step
   pub newest : newest_at net.rec (Customer port) ≡ Some step
+  pub lawful : IsLawfulRecord spanning_tree net.plan net.rec
   pub number_is : number ≡ entry_number step
   pub text_is : text ≡ entry_line plan port step
 

@@ -1,10 +1,14 @@
 -- The command: frames are injected one after the other, and the lines show where each goes.
 use Rattle.std.specs.Prelude.{◌≡◌, ℕ, List, ◌++◌, Option}
 use Rattle.std.specs.Io.KnownBytes.{Appends, Keeps}
-use Rattle.pb_converge.specs.Falls.{HaveFallen, IsRefused}
+use Rattle.pb_converge.specs.Drives.{ReachesLimit}
+use Rattle.pb_converge.specs.Enough.{HasEnoughMemory}
+use Rattle.pb_converge.specs.Falls.{HaveFallen, IsRefused, fresh}
+use Rattle.pb_lan.specs.Records.{IsLawfulRecord}
 use Rattle.pb_lan.specs.declared.plan.Plan.{Plan}
 use Rattle.pb_lan.specs.declared.record.Record.{Record}
 use Rattle.pb_net.specs.Answers.{NetView}
+use Rattle.pb_relay.specs.Protocol.{spanning_tree}
 use Rattle.pb_report.specs.PlanFiles.{IsToldBy}
 use Rattle.pb_report.specs.Refusals.{PrintsRefusal}
 use Rattle.pb_cmd_trace.specs.Stories.{HasBegun, HasJourneyed, LacksPort, LacksFrame}
@@ -19,15 +23,21 @@ use Rattle.pb_cmd_trace.specs.declared.round.FrameId.{FrameId}
 abbrev pub end_lines : Plan → Record → Option FrameId → List ℕ
 end_lines plan rec round = round_line plan rec round ++ summary_line plan rec
 
--- the bridges converge if that is requested, then come the lines of each frame, then the last lines
+-- The bridges converge if that is requested, then come the lines of each frame, then the last lines. The record before
+-- the first frame and the one that the last lines count are lawful. No allocation failed in the latter, which has all
+-- steps.
 pub record IsTraceFrom (plan : Plan) (asked : Asked) (start : NetView) (text : List ℕ) : Type 0 where
   pub head : List ℕ
   pub rested : NetView
   pub begun : HasBegun asked.settle start rested head
+  pub planned : rested.plan ≡ plan
+  pub lawful : IsLawfulRecord spanning_tree plan rested.rec
   pub round : Option FrameId
   pub last : NetView
   pub body : List ℕ
   pub stories : HasJourneyed plan asked.entries.now (journey_told round) rested last body
+  pub counted : IsLawfulRecord spanning_tree plan last.rec
+  pub enough : HasEnoughMemory last.rec
   pub text_is : text ≡ head ++ body ++ end_lines plan last.rec round
 
 -- that text, or what is missing
@@ -67,3 +77,7 @@ HasTold file asked Told before after = (plan : Plan) × IsToldBy file plan × Ha
 HasTold file asked (NoPort index) before after = (plan : Plan) × IsToldBy file plan × HasTraced plan asked (NoPort index) before after
 HasTold file asked (NoFrame index) before after = (plan : Plan) × IsToldBy file plan × HasTraced plan asked (NoFrame index) before after
 HasTold file asked (NoDown fault) before after = (plan : Plan) × IsToldBy file plan × HasTraced plan asked (NoDown fault) before after
+
+-- the network of the plan in the file reaches the limit of steps of a place, or a million events
+abbrev pub RunsIntoLimit : List ℕ → Type 0
+RunsIntoLimit file = (plan : Plan) × IsToldBy file plan × ReachesLimit 1000000 (fresh plan)

@@ -1,10 +1,10 @@
 //! The trace of one frame.
 
-ghost use Rattle.std.specs.Prelude.{◌≡◌, ◌++◌, List, ℕ, true, string_bytes, IfOk, OnOk};
+ghost use Rattle.std.specs.Prelude.{◌≡◌, ◌++◌, List, ℕ, true, string_bytes, IfOk, IfErr, OnOk};
 ghost use Rattle.pb_lan.specs.Events.{has_place};
 ghost use Rattle.pb_lan.specs.Plans.{IsSound};
 ghost use Rattle.pb_lan.specs.declared.step.Place.TheVariants.{Customer};
-ghost use Rattle.pb_converge.specs.Drives.{HasDrained};
+ghost use Rattle.pb_converge.specs.Drives.{HasDrained, IsCaused};
 ghost use Rattle.pb_cmd_step.specs.Steps.{HasGrown};
 ghost use Rattle.pb_cmd_trace.specs.Stories.{AnswersFrame, IsConclusion, IsEntry, IsFollowed, others_line};
 ghost use Rattle.pb_cmd_trace.specs.Stories.{entry_number};
@@ -12,10 +12,9 @@ ghost use Rattle.pb_cmd_trace.specs.Stories.{entry_number};
 use crate::telling::put_entry;
 use crate::walk::{Course, newest, walk};
 use bytes::Bytes;
-use pb_converge::{drain, fault_of};
+use pb_converge::{DriveFault, drain, fault_in};
 use pb_frame::Memory;
 use pb_lan::{Event, Place, Plan, Step};
-use pb_messages::CommandFault;
 use pb_net::{Did, Net, NetFault};
 use pb_step_script::put_idle;
 use std::alloc::Global;
@@ -79,16 +78,17 @@ fn tell_entry(
 }
 
 /// Does what else is due, and appends the number of these events, if there were any.
-fn finish(out: &mut String, plan: &Plan, net: &mut Net) -> Result<(), CommandFault>
+fn finish(out: &mut String, plan: &Plan, net: &mut Net) -> Result<(), DriveFault>
     requires sound { IsSound plan.now }
     requires plan { net.old.plan ≡ plan.now }
     ensures plan { net.new.plan ≡ plan.now }
     ensures ok { OnOk result ((others : ℕ) × HasDrained others net.old net.new
         × (string_bytes out.new ≡ string_bytes out.old ++ others_line others)) }
+    ensures err { IfErr result (λ fault. IsCaused 1000000 fault net.old) }
 {
     match drain(net, plan, MOST_OTHERS) {
         Ok(others) => Ok(put_others(out, others)?),
-        Err(fault) => Err(fault_of(fault)),
+        Err(fault) => Err(fault_in(net, plan, fault)),
     }
 }
 
@@ -99,12 +99,13 @@ fn conclude(
     net: &mut Net,
     course: Course,
     number: u64,
-) -> Result<Fate, CommandFault>
+) -> Result<Fate, DriveFault>
     requires sound { IsSound plan.now }
     requires plan { net.old.plan ≡ plan.now }
     ensures plan { net.new.plan ≡ plan.now }
     ensures ok { IfOk result (λ fate. (text : List ℕ) × (string_bytes out.new ≡ string_bytes out.old ++ text)
         × IsConclusion course fate number net.old net.new text) }
+    ensures err { IfErr result (λ fault. IsCaused 1000000 fault net.old) }
 {
     match course {
         Course::GoesRound => Ok(Fate::GoesRound(number)),
@@ -122,7 +123,7 @@ fn follow(
     plan: &Plan,
     net: &mut Net,
     port: u8,
-) -> Result<Fate, CommandFault>
+) -> Result<Fate, DriveFault>
     requires sound { IsSound plan.now }
     requires plan { net.old.plan ≡ plan.now }
     requires has { has_place net.old.plan (Customer port) ≡ true }
@@ -130,6 +131,7 @@ fn follow(
     ensures plan { net.new.plan ≡ plan.now }
     ensures ok { IfOk result (λ fate. (text : List ℕ) × (string_bytes out.new ≡ string_bytes out.old ++ text)
         × IsFollowed plan.now port fate net.old net.new text) }
+    ensures err { IfErr result (λ fault. IsCaused 1000000 fault net.old) }
 {
     let number = tell_entry(alloc, out, plan, net, port)?;
     let course = walk(alloc, out, plan, net, port)?;
@@ -144,12 +146,13 @@ pub(crate) fn trace_frame(
     net: &mut Net,
     port: u8,
     frame: Bytes,
-) -> Result<Fate, CommandFault>
+) -> Result<Fate, DriveFault>
     requires sound { IsSound plan.now }
     requires plan { net.old.plan ≡ plan.now }
     ensures plan { net.new.plan ≡ plan.now }
     ensures ok { IfOk result (λ fate. (text : List ℕ) × (string_bytes out.new ≡ string_bytes out.old ++ text)
         × AnswersFrame plan.now port frame fate net.old net.new text) }
+    ensures err { IfErr result (λ fault. IsCaused 1000000 fault net.old) }
 {
     match net.step(Event::Poll { port, frame }) {
         Ok(Did::Done(_)) => follow(alloc, out, plan, net, port),
@@ -158,7 +161,7 @@ pub(crate) fn trace_frame(
             Ok(Fate::Ended)
         }
         Err(NetFault::NoSuch) => Ok(Fate::NoPort),
-        Err(NetFault::StepLimit) => Err(CommandFault::Steps),
-        Err(NetFault::Memory) => Err(CommandFault::Memory),
+        Err(NetFault::StepLimit) => Err(fault_in(net, plan, DriveFault::Steps)),
+        Err(NetFault::Memory) => Err(DriveFault::Memory),
     }
 }

@@ -1,14 +1,15 @@
 //! The traces of several frames, one after the other.
 
-ghost use Rattle.std.specs.Prelude.{◌≡◌, ◌++◌, List, ℕ, string_bytes, IfOk};
+ghost use Rattle.std.specs.Prelude.{◌≡◌, ◌++◌, List, ℕ, string_bytes, IfOk, IfErr};
+ghost use Rattle.pb_converge.specs.Drives.{IsCaused};
 ghost use Rattle.pb_lan.specs.Plans.{IsSound};
 ghost use Rattle.pb_cmd_trace.specs.Stories.{AnswersEntry, HasJourneyed};
 
 use crate::entry::Entry;
 use crate::frame::{Fate, trace_frame};
 use crate::round::FrameId;
+use pb_converge::DriveFault;
 use pb_lan::Plan;
-use pb_messages::CommandFault;
 use pb_names::port_named;
 use pb_net::Net;
 use pb_step_script::read_frame;
@@ -32,12 +33,13 @@ fn trace_entry(
     plan: &Plan,
     net: &mut Net,
     entry: &Entry,
-) -> Result<Fate, CommandFault>
+) -> Result<Fate, DriveFault>
     requires sound { IsSound plan.now }
     requires plan { net.old.plan ≡ plan.now }
     ensures plan { net.new.plan ≡ plan.now }
     ensures ok { IfOk result (λ fate. (text : List ℕ) × (string_bytes out.new ≡ string_bytes out.old ++ text)
         × AnswersEntry plan.now entry.now fate net.old net.new text) }
+    ensures err { IfErr result (λ fault. IsCaused 1000000 fault net.old) }
 {
     let port = port_named(plan, entry.port.as_str());
     match read_frame(alloc, entry.hex.as_bytes())? {
@@ -53,12 +55,13 @@ pub(crate) fn travel(
     plan: &Plan,
     net: &mut Net,
     entries: &[Entry],
-) -> Result<Journey, CommandFault>
+) -> Result<Journey, DriveFault>
     requires sound { IsSound plan.now }
     requires plan { net.old.plan ≡ plan.now }
     ensures plan { net.new.plan ≡ plan.now }
     ensures ok { IfOk result (λ journey. (text : List ℕ) × (string_bytes out.new ≡ string_bytes out.old ++ text)
         × HasJourneyed plan.now entries.now journey net.old net.new text) }
+    ensures err { IfErr result (λ fault. IsCaused 1000000 fault net.old) }
 {
     for (index, entry) in entries.iter().enumerate() {
         match trace_entry(alloc, out, plan, net, entry)? {

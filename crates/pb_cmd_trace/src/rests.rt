@@ -1,14 +1,17 @@
 //! Convergence before the first frame.
 
-ghost use Rattle.std.specs.Prelude.{◌≡◌, ◌++◌, List, ℕ, string_bytes, OnOk};
+ghost use Rattle.std.specs.Prelude.{◌≡◌, ◌++◌, List, ℕ, string_bytes, IfErr, OnOk};
+ghost use Rattle.pb_converge.specs.Drives.{IsCaused};
 ghost use Rattle.pb_lan.specs.Plans.{IsSound};
 ghost use Rattle.pb_cmd_trace.specs.Stories.{HasBegun};
 
-use pb_converge::{put_rest, rests};
+use pb_converge::{DriveFault, put_rest, settle};
 use pb_lan::Plan;
-use pb_messages::CommandFault;
 use pb_net::Net;
 use std::alloc::Global;
+
+/// The most events besides ticks until convergence.
+const MOST_EVENTS: u64 = 1_000_000_000;
 
 /// Drives the network to convergence within these ticks of each bridge, if any, and appends the result.
 pub(crate) fn begin(
@@ -16,17 +19,18 @@ pub(crate) fn begin(
     out: &mut String,
     plan: &Plan,
     net: &mut Net,
-    settle: Option<u32>,
-) -> Result<(), CommandFault>
+    most: Option<u32>,
+) -> Result<(), DriveFault>
     requires sound { IsSound plan.now }
     requires plan { net.old.plan ≡ plan.now }
     ensures plan { net.new.plan ≡ plan.now }
     ensures ok { OnOk result ((text : List ℕ) × (string_bytes out.new ≡ string_bytes out.old ++ text)
-        × HasBegun settle net.old net.new text) }
+        × HasBegun most net.old net.new text) }
+    ensures err { IfErr result (λ fault. IsCaused 1000000 fault net.old) }
 {
-    let Some(ticks) = settle else {
+    let Some(ticks) = most else {
         return Ok(());
     };
-    let rest = rests(alloc, net, plan, ticks)?;
+    let rest = settle(alloc, net, plan, ticks, MOST_EVENTS)?;
     Ok(put_rest(out, rest)?)
 }

@@ -1,9 +1,16 @@
 //! The command.
 
-ghost use Rattle.std.specs.Prelude.{◌≡◌, ◌≢◌, ◌++◌, List, ℕ, string_bytes, IfOk, IfErr, OnOk};
+ghost use Rattle.std.specs.Prelude.{◌≡◌, ◌≢◌, ◌++◌, List, ℕ, true, string_bytes, IfOk, IfErr, OnOk};
 ghost use Rattle.std.specs.Io.KnownBytes.{Appends, Keeps};
+ghost use Rattle.pb_converge.specs.Drives.{IsCaused, ReachesLimit};
+ghost use Rattle.pb_converge.specs.Enough.{HasEnoughMemory};
+ghost use Rattle.pb_converge.specs.Falls.{fresh};
+ghost use Rattle.pb_lan.specs.Events.{has_place};
 ghost use Rattle.pb_lan.specs.Plans.{IsSound};
-ghost use Rattle.pb_cmd_trace.specs.Traces.{AnswersTrace, EndsTrace, HasTold, HasTraced, end_lines};
+ghost use Rattle.pb_lan.specs.Records.{IsLawfulRecord};
+ghost use Rattle.pb_lan.specs.declared.step.Place.TheVariants.{Customer};
+ghost use Rattle.pb_relay.specs.Protocol.{spanning_tree};
+ghost use Rattle.pb_cmd_trace.specs.Traces.{AnswersTrace, EndsTrace, HasTold, HasTraced, RunsIntoLimit, end_lines};
 
 use crate::asked::Asked;
 use crate::end::TraceEnd;
@@ -11,9 +18,9 @@ use crate::journey::{Journey, travel};
 use crate::rests::begin;
 use crate::round::{FrameId, put_round};
 use crate::summary::put_summary;
-use pb_converge::{falls, fresh};
+use pb_converge::{DriveFault, check_memory, disables, fault_of, fresh};
 use pb_frame::Memory;
-use pb_lan::Plan;
+use pb_lan::{Place, Plan};
 use pb_messages::{CommandFault, write_whole};
 use pb_net::Net;
 use pb_report::write_refusal;
@@ -31,12 +38,25 @@ fn put_end(
 ) -> Result<(), Memory>
     requires sound { IsSound plan.now }
     requires plan { net.plan ≡ plan.now }
-    ensures { OnOk result (string_bytes out.new ≡ string_bytes out.old ++ end_lines plan.now net.rec round) }
+    ensures text { OnOk result (string_bytes out.new ≡ string_bytes out.old ++ end_lines plan.now net.rec round) }
+    ensures lawful { OnOk result (IsLawfulRecord spanning_tree plan.now net.rec) }
+    ensures enough { OnOk result (HasEnoughMemory net.rec) }
 {
     let rec = net.finish();
+    check_memory(alloc, &rec)?;
     put_round(out, plan, &rec, round)?;
     put_summary(alloc, out, plan, &rec)?;
     Ok(())
+}
+
+/// Shows that the record of a network with customer ports is lawful, and does nothing.
+fn steps_are_lawful(net: &Net)
+    ensures { has_place net.now.plan (Customer 1) ≡ true → IsLawfulRecord spanning_tree net.now.plan net.now.rec }
+{
+    let first = Place::Customer(1);
+    if net.has_place(first) {
+        let _steps = net.steps(first);
+    }
 }
 
 /// Appends the traces of frames, from a network that no frame has entered.
@@ -46,13 +66,15 @@ fn put_stories(
     plan: &Plan,
     mut net: Net,
     asked: &Asked<'_>,
-) -> Result<TraceEnd, CommandFault>
+) -> Result<TraceEnd, DriveFault>
     requires sound { IsSound plan.now }
     requires plan { net.plan ≡ plan.now }
-    ensures { IfOk result (λ end. (text : List ℕ) × (string_bytes out.new ≡ string_bytes out.old ++ text)
+    ensures ok { IfOk result (λ end. (text : List ℕ) × (string_bytes out.new ≡ string_bytes out.old ++ text)
         × EndsTrace plan.now asked.now end net text) }
+    ensures err { IfErr result (λ fault. IsCaused 1000000 fault net) }
 {
     begin(alloc, out, plan, &mut net, asked.settle)?;
+    steps_are_lawful(&net);
     match travel(alloc, out, plan, &mut net, asked.entries)? {
         Journey::Told(round) => {
             put_end(alloc, out, plan, net, round)?;
@@ -69,13 +91,14 @@ fn put_trace(
     out: &mut String,
     plan: &Plan,
     asked: &Asked<'_>,
-) -> Result<TraceEnd, CommandFault>
+) -> Result<TraceEnd, DriveFault>
     requires { IsSound plan.now }
-    ensures { IfOk result (λ end. (text : List ℕ) × (string_bytes out.new ≡ string_bytes out.old ++ text)
+    ensures ok { IfOk result (λ end. (text : List ℕ) × (string_bytes out.new ≡ string_bytes out.old ++ text)
         × AnswersTrace plan.now asked.now end text) }
+    ensures err { IfErr result (λ fault. IsCaused 1000000 fault (fresh plan.now)) }
 {
     let mut net = fresh(alloc, plan)?;
-    match falls(alloc, &mut net, plan, asked.downs)? {
+    match disables(alloc, &mut net, plan, asked.downs)? {
         Some(fault) => Ok(TraceEnd::NoDown(fault)),
         None => put_stories(alloc, out, plan, net, asked),
     }
@@ -91,25 +114,28 @@ fn write_trace<W: Write>(
     requires { IsSound plan.now }
     ensures ok { IfOk result (λ end. HasTraced plan.now asked.now end (W.contents writer.old)
         (W.contents writer.new)) }
+    ensures kinds { IfErr result (λ e. e ≢ CommandFault.Read) }
+    ensures steps { IfErr result (λ e. e ≡ CommandFault.Steps → ReachesLimit 1000000 (fresh plan.now)) }
     ensures none { IfErr result (λ e. e ≢ CommandFault.Write → Keeps (W.contents writer.old) (W.contents writer.new)) }
 {
     let mut out = String::new(alloc);
-    match put_trace(alloc, &mut out, plan, asked)? {
-        TraceEnd::Told => {
+    match put_trace(alloc, &mut out, plan, asked) {
+        Ok(TraceEnd::Told) => {
             write_whole(writer, out.as_bytes())?;
             Ok(TraceEnd::Told)
         }
-        TraceEnd::Refused => Ok(TraceEnd::Refused),
-        TraceEnd::NoPort(index) => Ok(TraceEnd::NoPort(index)),
-        TraceEnd::NoFrame(index) => Ok(TraceEnd::NoFrame(index)),
-        TraceEnd::NoDown(fault) => Ok(TraceEnd::NoDown(fault)),
+        Ok(TraceEnd::Refused) => Ok(TraceEnd::Refused),
+        Ok(TraceEnd::NoPort(index)) => Ok(TraceEnd::NoPort(index)),
+        Ok(TraceEnd::NoFrame(index)) => Ok(TraceEnd::NoFrame(index)),
+        Ok(TraceEnd::NoDown(fault)) => Ok(TraceEnd::NoDown(fault)),
+        Err(fault) => Err(fault_of(fault)),
     }
 }
 
 /// Reads a plan file, injects frames one after the other, and writes where each goes, step by step.
 ///
 /// Each of `asked.downs` names a link, a bridge, or a port to another bridge as `BRIDGE:PORT`, which is disabled first,
-/// as [`falls`] describes. If `asked.settle` is given and the bridges run the rapid spanning tree (IEEE 802.1D-2004
+/// as [`disables`] describes. If `asked.settle` is given and the bridges run the rapid spanning tree (IEEE 802.1D-2004
 /// clause 17), they converge then, within so many ticks of each: the first line is `settled yes ticks N` or `settled no
 /// ticks N`. Each frame is injected at its customer port when the one before it has gone as far as it goes. Its lines
 /// are
@@ -128,7 +154,9 @@ fn write_trace<W: Write>(
 ///
 /// A frame that takes 1,000 events is in a forwarding loop. No more frames are injected then, and a line names each
 /// link that the frame passed twice or more in one direction. The last line has the customer ports at which frames
-/// were delivered, the number of customer frames and copies that bridges dropped, and the number that links lost.
+/// were delivered, the number of customer frames and copies that bridges dropped, and the number that links lost. The
+/// record of the network is lawful at the first frame and after each step of a frame, and the last line counts the
+/// steps of a lawful record, as [`Net::finish`] returns it, in which no allocation failed.
 ///
 /// If the file is not a valid plan, the line `plan: N WORD` is written, as `check` prints it, and `Refused` is
 /// returned. `NoDown` is returned if a name of `asked.downs` is unknown or ambiguous, `NoPort` if the plan lacks a
@@ -137,9 +165,10 @@ fn write_trace<W: Write>(
 ///
 /// # Errors
 ///
-/// `Memory` if an allocation failed, and `Steps` if a place would take more steps than the plan allows, more than
-/// 1,000,000,000 events besides ticks are due until convergence, or more than 1,000,000 other events are due after a
-/// frame. Nothing was written then. `Write` if a write failed; what was written is unknown then. `Read` never comes.
+/// `Memory` if an allocation failed, also in a bridge, which then drops what it can't store. Else `Steps` if a place
+/// would take more steps than the plan allows, more than 1,000,000,000 events besides ticks are due until convergence,
+/// or more than 1,000,000 other events are due after a frame. Nothing was written then. `Write` if a write failed; what
+/// was written is unknown then. `Read` never comes.
 pub fn run_trace<W: Write>(
     alloc: Global,
     file: &[u8],
@@ -148,6 +177,8 @@ pub fn run_trace<W: Write>(
 ) -> Result<TraceEnd, CommandFault>
     ensures ok { IfOk result (λ end. HasTold file.now asked.now end (W.contents writer.old)
         (W.contents writer.new)) }
+    ensures kinds { IfErr result (λ e. e ≢ CommandFault.Read) }
+    ensures steps { IfErr result (λ e. e ≡ CommandFault.Steps → RunsIntoLimit file.now) }
     ensures none { IfErr result (λ e. e ≢ CommandFault.Write → Keeps (W.contents writer.old) (W.contents writer.new)) }
 {
     match read_plan(alloc, file) {

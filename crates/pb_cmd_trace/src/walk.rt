@@ -1,6 +1,7 @@
 //! The walk of a frame and its copies through a network, step by step.
 
-ghost use Rattle.std.specs.Prelude.{◌≡◌, ◌++◌, ◌∷◌, [], List, ℕ, true, Some, string_bytes, IfOk};
+ghost use Rattle.std.specs.Prelude.{◌≡◌, ◌++◌, ◌∷◌, [], List, ℕ, true, Some, string_bytes, IfOk, IfErr};
+ghost use Rattle.pb_converge.specs.Drives.{IsCaused};
 ghost use Rattle.pb_lan.specs.Events.{has_place, steps_at};
 ghost use Rattle.pb_lan.specs.Plans.{IsSound};
 ghost use Rattle.pb_lan.specs.Records.{IsLawfulRecord};
@@ -12,8 +13,9 @@ ghost use Rattle.pb_cmd_trace.specs.declared.onward.Onward.TheVariants.{Feed};
 use crate::following::push_following;
 use crate::onward::{Onward, event_of};
 use crate::telling::put_told;
+use pb_converge::{DriveFault, fault_in};
+use pb_frame::Memory;
 use pb_lan::{Place, Plan, Step};
-use pb_messages::CommandFault;
 use pb_net::{Did, Net, NetFault};
 use std::alloc::Global;
 
@@ -56,12 +58,13 @@ fn go_on(
     net: &mut Net,
     todo: &mut Vec<Onward>,
     onward: Onward,
-) -> Result<bool, CommandFault>
+) -> Result<bool, DriveFault>
     requires sound { IsSound plan.now }
     requires plan { net.old.plan ≡ plan.now }
     ensures plan { net.new.plan ≡ plan.now }
     ensures ok { IfOk result (λ went. GoesOn went plan.now onward net.old net.new todo.old.items todo.new.items
         (string_bytes out.old) (string_bytes out.new)) }
+    ensures err { IfErr result (λ fault. IsCaused 1000000 fault net.old) }
 {
     match net.step(event_of(onward)) {
         Ok(Did::Done(place)) => {
@@ -71,8 +74,8 @@ fn go_on(
             Ok(true)
         }
         Ok(Did::Idle) | Err(NetFault::NoSuch) => Ok(false),
-        Err(NetFault::StepLimit) => Err(CommandFault::Steps),
-        Err(NetFault::Memory) => Err(CommandFault::Memory),
+        Err(NetFault::StepLimit) => Err(fault_in(net, plan, DriveFault::Steps)),
+        Err(NetFault::Memory) => Err(DriveFault::Memory),
     }
 }
 
@@ -83,12 +86,13 @@ fn walk_on(
     plan: &Plan,
     net: &mut Net,
     todo: &mut Vec<Onward>,
-) -> Result<Course, CommandFault>
+) -> Result<Course, DriveFault>
     requires sound { IsSound plan.now }
     requires plan { net.old.plan ≡ plan.now }
     ensures plan { net.new.plan ≡ plan.now }
     ensures ok { IfOk result (λ course. (text : List ℕ) × (string_bytes out.new ≡ string_bytes out.old ++ text)
         × HasWalked plan.now todo.old.items course net.old net.new text) }
+    ensures err { IfErr result (λ fault. IsCaused 1000000 fault net.old) }
 {
     for _ in 0..MOST_EVENTS {
         let Some(onward) = todo.pop() else {
@@ -101,6 +105,15 @@ fn walk_on(
     Ok(Course::GoesRound)
 }
 
+/// Returns the list with the event that feeds a customer port's frame to its bridge.
+fn feeding(alloc: Global, port: u8) -> Result<Vec<Onward>, Memory>
+    ensures { IfOk result (λ todo. todo.items ≡ Feed port ∷ []) }
+{
+    let mut todo = Vec::new(alloc);
+    todo.push(Onward::Feed(port))?;
+    Ok(todo)
+}
+
 /// Follows the frame that a customer port holds, with its copies, and appends the line of each step.
 ///
 /// A copy is followed to its end before the next one; of a bridge's copies the one at the lowest port comes first.
@@ -110,14 +123,14 @@ pub(crate) fn walk(
     plan: &Plan,
     net: &mut Net,
     port: u8,
-) -> Result<Course, CommandFault>
+) -> Result<Course, DriveFault>
     requires sound { IsSound plan.now }
     requires plan { net.old.plan ≡ plan.now }
     ensures plan { net.new.plan ≡ plan.now }
     ensures ok { IfOk result (λ course. (text : List ℕ) × (string_bytes out.new ≡ string_bytes out.old ++ text)
         × HasWalked plan.now (Feed port ∷ []) course net.old net.new text) }
+    ensures err { IfErr result (λ fault. IsCaused 1000000 fault net.old) }
 {
-    let mut todo = Vec::new(alloc);
-    todo.push(Onward::Feed(port))?;
+    let mut todo = feeding(alloc, port)?;
     walk_on(alloc, out, plan, net, &mut todo)
 }

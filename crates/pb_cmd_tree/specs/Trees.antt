@@ -3,6 +3,7 @@ use Rattle.std.specs.Prelude.{◌≡◌, ℕ, List, Some, None, Option}
 use Rattle.std.specs.Io.KnownBytes.{Appends, Keeps}
 use Rattle.std.specs.Global.{Global}
 use Rattle.std.specs.declared.string.String.{String}
+use Rattle.pb_converge.specs.Enough.{HasEnoughMemory}
 use Rattle.pb_converge.specs.Falls.{HaveFallen, IsRefused, fresh}
 use Rattle.pb_converge.specs.declared.falling.DownFault.{DownFault}
 use Rattle.pb_lan.specs.Records.{IsLawfulRecord}
@@ -17,13 +18,15 @@ use Rattle.pb_cmd_tree.specs.TreeTexts.{IsTreeText}
 use Rattle.pb_cmd_tree.specs.declared.end.TreeEnd.{TreeEnd}
 use Rattle.pb_cmd_tree.specs.declared.end.TreeEnd.TheVariants.{Told, Refused, NoDown}
 
--- each bridge ticks at most so many times, and the text has the trees at the end, which are those of a lawful record
+-- each bridge ticks at most so many times, and the text has the trees at the end, which are those of a lawful record in
+-- which no allocation failed
 pub record AreTreesFrom (plan : Plan) (ticks : ℕ) (fallen : NetView) (text : List ℕ) : Type 0 where
   pub last : NetView
   pub rest : Rest
   pub rested : HasRested ticks 1000000000 rest fallen last
   pub planned : last.plan ≡ plan
   pub lawful : IsLawfulRecord spanning_tree plan last.rec
+  pub enough : HasEnoughMemory last.rec
   pub trees : IsTreeText plan last.rec rest text
 
 -- what the names disable is disabled first

@@ -3,6 +3,7 @@
 ghost use Rattle.std.specs.Prelude.{◌≡◌, ◌≢◌, ◌++◌, List, ℕ, string_bytes, OnOk, IfOk, IfErr};
 ghost use Rattle.std.specs.Io.KnownBytes.{Appends, Keeps};
 ghost use Rattle.pb_converge.specs.Drives.{IsCaused, ReachesLimit};
+ghost use Rattle.pb_converge.specs.Enough.{HasEnoughMemory};
 ghost use Rattle.pb_converge.specs.Falls.{fresh};
 ghost use Rattle.pb_lan.specs.LastShapes.{last_shape};
 ghost use Rattle.pb_lan.specs.Plans.{IsSound};
@@ -32,7 +33,8 @@ const MOST_EVENTS: u64 = 1_000_000_000;
 /// Appends whether the shape at the end of a record is a forest for each service.
 fn put_last_forest(alloc: Global, out: &mut String, plan: &Plan, rec: &Record) -> Result<(), Memory>
     requires { IsSound plan.now }
-    ensures { OnOk result ((text : List ℕ) × (string_bytes out.new ≡ string_bytes out.old ++ text)
+    ensures enough { OnOk result (HasEnoughMemory rec.now) }
+    ensures text { OnOk result ((text : List ℕ) × (string_bytes out.new ≡ string_bytes out.old ++ text)
         × IsForestText plan.now (last_shape plan.now rec.now) text) }
 {
     let shape = shape_of(alloc, plan, rec)?;
@@ -42,7 +44,8 @@ fn put_last_forest(alloc: Global, out: &mut String, plan: &Plan, rec: &Record) -
 /// Appends the trees of a plan that gives the states of the ports.
 fn put_planned(alloc: Global, out: &mut String, plan: &Plan, rec: &Record) -> Result<(), Memory>
     requires { IsSound plan.now }
-    ensures { OnOk result ((text : List ℕ) × (string_bytes out.new ≡ string_bytes out.old ++ text)
+    ensures enough { OnOk result (HasEnoughMemory rec.now) }
+    ensures text { OnOk result ((text : List ℕ) × (string_bytes out.new ≡ string_bytes out.old ++ text)
         × IsGivenText plan.now (last_shape plan.now rec.now) text) }
 {
     let shape = shape_of(alloc, plan, rec)?;
@@ -130,7 +133,7 @@ fn print_trees<W: Write>(
 ///
 /// Each of `downs` names a link, a bridge, or a port to another bridge as `BRIDGE:PORT`, as [`disables`] describes.
 /// Each bridge takes at most `ticks` ticks (seconds). What is printed is the end of a lawful record of that network, as
-/// [`Net::finish`] returns it.
+/// [`Net::finish`] returns it, in which no allocation failed.
 ///
 /// If the bridges run the rapid spanning tree (IEEE 802.1D-2004 clause 17), the lines are
 ///
@@ -151,9 +154,9 @@ fn print_trees<W: Write>(
 ///
 /// # Errors
 ///
-/// `Memory` if an allocation failed, and `Steps` if a place would take more steps than the plan allows or more than
-/// 1,000,000,000 events are due. Nothing was written then. `Write` if a write failed; what was written is unknown then.
-/// `Read` never comes.
+/// `Memory` if an allocation failed, also in a bridge, which then drops what it can't store. `Steps` if a place would
+/// take more steps than the plan allows or more than 1,000,000,000 events are due, and no allocation failed. Nothing
+/// was written then. `Write` if a write failed; what was written is unknown then. `Read` never comes.
 pub fn run_tree<W: Write>(
     alloc: Global,
     file: &[u8],

@@ -79,7 +79,7 @@ link_more plan name items k link old mid new all within is before one =
     subst (λ es. HaveDone old es new) (sym (ap (λ es. map set_down es) ends ∙ map-append set_down front (f link)))
     (done-append old mid new (map set_down front) (map set_down (f link)) before one)
 
--- what one more name disables was disabled, for the loop of falls
+-- what one more name disables was disabled, for the loop of fall_all
 pub fallen_more : (plan : Plan) (names : List (String Global)) (k : ℕ) (w : String Global) (mid new : NetView)
     → k < length names → w ≡ get_or names k w → HaveFallen plan (take k names) mid → IsClear plan (string_bytes w)
     → HaveDone mid (map set_down (all_down plan (string_bytes w))) new → HaveFallen plan (take (k + 1) names) new

@@ -10,6 +10,7 @@ use Rattle.pb_lan.specs.declared.plan.Spanning.TheVariants.{Fixed, Rstp}
 use Rattle.pb_net.specs.Answers.{NetView, IsAnswer}
 use Rattle.pb_net.specs.declared.did.Did.TheVariants.{Done}
 use Rattle.pb_relay.specs.Settled.{TellsSettled}
+use Rattle.pb_converge.specs.Enough.{HasEnoughMemory}
 use Rattle.pb_converge.specs.declared.fault.DriveFault.{DriveFault}
 use Rattle.pb_converge.specs.declared.fault.DriveFault.TheVariants.{Memory, Steps, Events}
 use Rattle.pb_converge.specs.declared.rest.Rest.{Rest}
@@ -93,12 +94,13 @@ pub record HasBroken (fault : DriveFault) (old new : NetView) : Type 0 where
   pub done : HaveDone old events new
   pub refusal : IsRefusal fault new
 
--- some events were performed one after the other, and then one was due at a place that may take no more steps, or they
--- are more than `most`
+-- some events were performed one after the other, no allocation failed in them, and then one was due at a place that
+-- may take no more steps, or they are more than `most`
 pub record ReachesLimit (most : ℕ) (old : NetView) : Type 0 where
   pub events : List Event
   pub new : NetView
   pub done : HaveDone old events new
+  pub enough : HasEnoughMemory new.rec
   pub limit : IsAtLimit new ⊎ (most < length events)
 
 -- why driving a network ended with a fault: a limit was reached, unless an allocation failed

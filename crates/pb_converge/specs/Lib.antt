@@ -1,3 +1,4 @@
+pub mod Enough
 pub mod Drives
 pub mod Sweeps
 pub mod Falls

@@ -1,11 +1,12 @@
 //! Disables the ends of links that arguments name.
 
-ghost use Rattle.std.specs.Prelude.{◌≡◌, ◌∷◌, [], map, true, IfOk, IfErr, MatchResult, OnOk};
+ghost use Rattle.std.specs.Prelude.{◌≡◌, ◌≢◌, ◌∷◌, [], map, true, IfOk, IfErr, MatchResult, OnOk};
 ghost use Rattle.std.specs.List.{filter};
 ghost use Rattle.pb_frame.specs.Admission.{same};
 ghost use Rattle.pb_lan.specs.Plans.{IsSound};
 ghost use Rattle.pb_lan.specs.Ports.{is_provider, port_at};
 ghost use Rattle.pb_converge.specs.Drives.{HasBroken, HaveDone};
+ghost use Rattle.pb_converge.specs.Enough.{HasEnoughMemory};
 ghost use Rattle.pb_converge.specs.Falls.{
   all_down,
   ends_down,
@@ -23,10 +24,9 @@ ghost use Rattle.pb_converge.specs.Falls.{
 };
 
 use crate::fault::DriveFault;
-use crate::resting::fault_of;
+use crate::limit::fault_in;
 use pb_frame::Memory;
 use pb_lan::{End, Event, LinkPlan, Plan};
-use pb_messages::CommandFault;
 use pb_names::bridge_name;
 use pb_net::{Net, NetFault};
 use std::alloc::Global;
@@ -231,17 +231,8 @@ fn fall_named(alloc: Global, net: &mut Net, plan: &Plan, name: &str) -> Result<(
     Ok(())
 }
 
-/// Disables the ends of links that names disable, in order, in a network that has taken no step.
-///
-/// Each of `names` is the name of a link, of a bridge, or of a port to another bridge as `BRIDGE:PORT`, with the local
-/// port of the bridge. A link's name disables both of its ends. A bridge's name disables both ends of each of its
-/// links, which may be none. `BRIDGE:PORT` disables that end alone, and the neighbour's end stays enabled. Returns the
-/// first name that is unknown, or that a link and a bridge have. The names before it have had their effect then.
-///
-/// # Errors
-///
-/// `Memory` if an allocation failed, `Steps` if a bridge had to take more steps than the plan allows.
-pub fn disables(
+/// Disables the ends of links that names disable. Fails as [`fall_named`] does, and else as [`disables`] describes.
+fn fall_all(
     alloc: Global,
     net: &mut Net,
     plan: &Plan,
@@ -261,23 +252,31 @@ pub fn disables(
     Ok(None)
 }
 
-/// Disables the ends of links that names disable, as [`disables`] does.
+/// Disables the ends of links that names disable, in order, in a network that has taken no step.
+///
+/// Each of `names` is the name of a link, of a bridge, or of a port to another bridge as `BRIDGE:PORT`, with the local
+/// port of the bridge. A link's name disables both of its ends. A bridge's name disables both ends of each of its
+/// links, which may be none. `BRIDGE:PORT` disables that end alone, and the neighbour's end stays enabled. Returns the
+/// first name that is unknown, or that a link and a bridge have. The names before it have had their effect then.
 ///
 /// # Errors
 ///
-/// `Memory` if an allocation failed, `Steps` if a bridge had to take more steps than the plan allows.
-pub fn falls(
+/// `Memory` if an allocation failed, `Steps` if a bridge had to take more steps than the plan allows, and no allocation
+/// failed in its steps.
+pub fn disables(
     alloc: Global,
     net: &mut Net,
     plan: &Plan,
     names: &[String],
-) -> Result<Option<DownFault>, CommandFault>
+) -> Result<Option<DownFault>, DriveFault>
     requires sound { IsSound plan.now }
     requires fresh { net.old ≡ fresh plan.now }
-    ensures { IfOk result (λ fault. AnswersFalls plan.now names.now fault net.new) }
+    ensures falls { IfOk result (λ fault. AnswersFalls plan.now names.now fault net.new) }
+    ensures err { IfErr result (λ fault. HasBroken fault net.old net.new) }
+    ensures enough { IfErr result (λ fault. fault ≢ DriveFault.Memory → HasEnoughMemory net.new.rec) }
 {
-    match disables(alloc, net, plan, names) {
+    match fall_all(alloc, net, plan, names) {
         Ok(fault) => Ok(fault),
-        Err(fault) => Err(fault_of(fault)),
+        Err(fault) => Err(fault_in(net, plan, fault)),
     }
 }

@@ -5,6 +5,7 @@
 mod draining;
 mod falling;
 mod fault;
+mod limit;
 mod nets;
 mod rest;
 mod resting;
@@ -12,9 +13,10 @@ mod settling;
 mod suggesting;
 
 pub use draining::drain;
-pub use falling::{DownFault, disables, falls};
+pub use falling::{DownFault, disables};
 pub use fault::DriveFault;
-pub use nets::{copied, fresh, shape_of};
+pub use limit::fault_in;
+pub use nets::{check_memory, copied, fresh, shape_of};
 pub use rest::Rest;
 pub use resting::{fault_of, put_rest, rests};
 pub use settling::{settle, stand};

@@ -1,8 +1,9 @@
 //! Networks before the first step and after the last one.
 
-ghost use Rattle.std.specs.Prelude.{◌≡◌, IfOk};
+ghost use Rattle.std.specs.Prelude.{◌≡◌, IfOk, OnOk};
 ghost use Rattle.pb_lan.specs.LastShapes.{last_shape};
 ghost use Rattle.pb_lan.specs.Plans.{IsSound};
+ghost use Rattle.pb_converge.specs.Enough.{HasEnoughMemory};
 ghost use Rattle.pb_converge.specs.Falls.{fresh};
 
 use pb_frame::Memory;
@@ -34,15 +35,44 @@ pub fn copied(net: &Net) -> Result<Net, Memory>
     Ok(net.clone()?)
 }
 
-/// Returns the states of all ports after the steps of a record.
+/// Checks that no allocation failed in a step of a bridge.
 ///
 /// # Errors
 ///
-/// `Memory` if the allocation of the lists failed.
-pub fn shape_of(alloc: Global, plan: &Plan, rec: &Record) -> Result<Shape, Memory>
-    requires { IsSound plan.now }
-    ensures { IfOk result (λ shape. shape ≡ last_shape plan.now rec.now) }
+/// `Memory` if one failed.
+fn check_tallies(tallies: &Tallies) -> Result<(), Memory>
+    ensures { OnOk result (HasEnoughMemory tallies.now) }
+{
+    if tallies.lacked_memory() {
+        return Err(Memory);
+    }
+    Ok(())
+}
+
+/// Checks that no allocation failed in the steps of a record. A bridge that lacks memory drops what it can't store, also
+/// a BPDU, and such a record says nothing of the plan.
+///
+/// # Errors
+///
+/// `Memory` if an allocation failed in a step of a bridge, or now.
+pub fn check_memory(alloc: Global, rec: &Record) -> Result<(), Memory>
+    ensures { OnOk result (HasEnoughMemory rec.now) }
 {
     let tallies = Tallies::of(alloc, rec)?;
+    check_tallies(&tallies)
+}
+
+/// Returns the states of all ports after the steps of a record in which no allocation failed.
+///
+/// # Errors
+///
+/// `Memory` if an allocation failed in a step of a bridge, or now.
+pub fn shape_of(alloc: Global, plan: &Plan, rec: &Record) -> Result<Shape, Memory>
+    requires { IsSound plan.now }
+    ensures enough { IfOk result (λ _. HasEnoughMemory rec.now) }
+    ensures shape { IfOk result (λ shape. shape ≡ last_shape plan.now rec.now) }
+{
+    let tallies = Tallies::of(alloc, rec)?;
+    check_tallies(&tallies)?;
     last_shape(alloc, plan, &tallies)
 }

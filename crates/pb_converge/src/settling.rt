@@ -1,6 +1,6 @@
 //! Drives bridges to convergence.
 
-ghost use Rattle.std.specs.Prelude.{◌≡◌, ◌≤◌, ◌∷◌, [], true, OnOk, IfOk, IfErr, Some};
+ghost use Rattle.std.specs.Prelude.{◌≡◌, ◌≢◌, ◌≤◌, ◌∷◌, [], true, OnOk, IfOk, IfErr, Some};
 ghost use Rattle.pb_lan.specs.Events.{has_place};
 ghost use Rattle.pb_lan.specs.Plans.{IsSound};
 ghost use Rattle.pb_lan.specs.declared.plan.Spanning.TheVariants.{Rstp as by_protocol};
@@ -8,9 +8,11 @@ ghost use Rattle.pb_lan.specs.declared.step.Place.TheVariants.{Bridge};
 ghost use Rattle.pb_relay.specs.Settled.{TellsSettled};
 ghost use Rattle.pb_converge.specs.Drives.{HaveDone, HasBeenDriven, HasTicked, IsRound, HasGoneRound, HasStood};
 ghost use Rattle.pb_converge.specs.Drives.{HasFailed, HasRested, IsRefusal};
+ghost use Rattle.pb_converge.specs.Enough.{HasEnoughMemory};
 
 use crate::draining::drain;
 use crate::fault::DriveFault;
+use crate::limit::fault_in;
 use crate::rest::Rest;
 use pb_lan::{Event, Plan, Spanning};
 use pb_net::{Net, NetFault};
@@ -140,10 +142,14 @@ pub fn stand(net: &mut Net, plan: &Plan, ticks: u32, events: u64) -> Result<(), 
     ensures plan { net.new.plan ≡ plan.now }
     ensures ok { OnOk result (HasStood plan.now.spanning ticks events net.old net.new) }
     ensures err { IfErr result (λ fault. HasFailed events fault net.old net.new) }
+    ensures enough { IfErr result (λ fault. fault ≢ DriveFault.Memory → HasEnoughMemory net.new.rec) }
 {
     match plan.spanning {
         Spanning::Fixed => Ok(()),
-        Spanning::Rstp => go_round(net, plan, ticks, events),
+        Spanning::Rstp => match go_round(net, plan, ticks, events) {
+            Ok(()) => Ok(()),
+            Err(fault) => Err(fault_in(net, plan, fault)),
+        },
     }
 }
 
@@ -157,7 +163,8 @@ pub fn stand(net: &mut Net, plan: &Plan, ticks: u32, events: u64) -> Result<(), 
 /// # Errors
 ///
 /// `Events` if more than `events` events besides the ticks are due. `Steps` if a place had to take more steps than the
-/// plan allows. `Memory` if an allocation failed. The events performed before keep their effect.
+/// plan allows. `Memory` if an allocation failed, and in place of the others if one failed in a step of a bridge. The
+/// events performed before keep their effect.
 pub fn settle(
     alloc: Global,
     net: &mut Net,
@@ -170,9 +177,13 @@ pub fn settle(
     ensures plan { net.new.plan ≡ plan.now }
     ensures ok { IfOk result (λ rest. HasRested most events rest net.old net.new) }
     ensures err { IfErr result (λ fault. HasFailed events fault net.old net.new) }
+    ensures enough { IfErr result (λ fault. fault ≢ DriveFault.Memory → HasEnoughMemory net.new.rec) }
 {
     match plan.spanning {
         Spanning::Fixed => Ok(Rest::Given),
-        Spanning::Rstp => rounds(alloc, net, plan, most, events),
+        Spanning::Rstp => match rounds(alloc, net, plan, most, events) {
+            Ok(rest) => Ok(rest),
+            Err(fault) => Err(fault_in(net, plan, fault)),
+        },
     }
 }

@@ -13,10 +13,10 @@ use Rattle.pb_lan.specs.Plans.{IsNumber, IsSound}
 use Rattle.pb_lan.specs.declared.plan.Plan.{Plan}
 use Rattle.pb_lan.specs.declared.plan.End.{End}
 use Rattle.pb_lan.specs.declared.plan.LinkPlan.{LinkPlan}
-use Rattle.pb_warnings.proofs.PathLemmas.{crosses_back, end_number}
+use Rattle.pb_joins.proofs.JoinLemmas.{crosses_back, end_number}
 use Rattle.pb_warnings.specs.Hops.{relaxed, IsWithin, AreHops, IsNear, Nears, TellsWithin}
 use Rattle.pb_warnings.specs.Links.{passes}
-use Rattle.pb_warnings.specs.Paths.{Leads, mark_at}
+use Rattle.pb_joins.specs.Joins.{Leads, mark_at}
 use Rattle.pb_warnings.specs.declared.links.Links.TheVariants.{All}
 
 same_or_not : (a b : ℕ) → (a ≡ b) ⊎ (a ≢ b)

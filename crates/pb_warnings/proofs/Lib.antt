@@ -1,4 +1,3 @@
-pub mod PathLemmas
 pub mod HopLemmas
 pub mod RuleLemmas
 pub mod FindingLemmas

@@ -9,11 +9,11 @@ use Rattle.pb_lan.specs.Plans.{IsSound, IsSoundCustomer, IsNumber}
 use Rattle.pb_lan.specs.declared.plan.Plan.{Plan}
 use Rattle.pb_lan.specs.declared.plan.Spanning.TheVariants.{Rstp}
 use Rattle.pb_lan.specs.declared.plan.CustomerPlan.{CustomerPlan}
-use Rattle.pb_warnings.proofs.PathLemmas.{path_numbers}
+use Rattle.pb_joins.proofs.JoinLemmas.{path_numbers}
 use Rattle.pb_warnings.specs.Hops.{TellsWithin}
 use Rattle.pb_warnings.specs.Links.{passes}
 use Rattle.pb_warnings.specs.Marks.{is_apart, are_apart}
-use Rattle.pb_warnings.specs.Paths.{Leads, mark_at, TellsJoined}
+use Rattle.pb_joins.specs.Joins.{Leads, mark_at, TellsJoined}
 use Rattle.pb_warnings.specs.Rules.{IsSplit, IsTooFar, root_of}
 use Rattle.pb_warnings.specs.declared.links.Links.TheVariants.{All, Service}
 

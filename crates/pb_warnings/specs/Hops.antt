@@ -4,7 +4,7 @@ use Rattle.pb_lan.specs.Plans.{IsNumber}
 use Rattle.pb_lan.specs.declared.plan.Plan.{Plan}
 use Rattle.pb_lan.specs.declared.plan.LinkPlan.{LinkPlan}
 use Rattle.pb_warnings.specs.Links.{passes}
-use Rattle.pb_warnings.specs.Paths.{Leads, mark_at}
+use Rattle.pb_joins.specs.Joins.{Leads, mark_at}
 use Rattle.pb_warnings.specs.declared.links.Links.TheVariants.{All}
 
 -- the list after an entry is brought down to one more than another one, at most 255

@@ -1,5 +1,4 @@
 pub mod Links
-pub mod Paths
 pub mod Hops
 pub mod Marks
 pub mod Rules

@@ -2,7 +2,7 @@
 use Rattle.std.specs.Prelude.{ℕ, Bool, not, List, ◌==◌, ◌&&◌}
 use Rattle.std.specs.List.{list_any}
 use Rattle.pb_lan.specs.declared.plan.Plan.{Plan}
-use Rattle.pb_warnings.specs.Paths.{mark_at}
+use Rattle.pb_joins.specs.Joins.{mark_at}
 
 -- a customer port of the service has another mark than this one
 abbrev pub is_apart : Plan → List ℕ → ℕ → ℕ → Bool

@@ -12,7 +12,7 @@ use Rattle.pb_lan.specs.declared.plan.CustomerPlan.{CustomerPlan}
 use Rattle.pb_lan.specs.declared.plan.Spanning.TheVariants.{Rstp}
 use Rattle.pb_rstp.specs.Profile.{plan_id}
 use Rattle.pb_warnings.specs.Links.{is_member, passes, touches}
-use Rattle.pb_warnings.specs.Paths.{Leads, AreJoined}
+use Rattle.pb_joins.specs.Joins.{Leads, AreJoined}
 use Rattle.pb_warnings.specs.declared.links.Links.TheVariants.{All, Service}
 use Rattle.pb_warnings.specs.declared.warning.Warning.{Warning}
 use Rattle.pb_warnings.specs.declared.warning.Warning.TheVariants.{NeverTicks, Unlinked, TooFar, Unequal, NoPort, OnePort, Split}

@@ -7,7 +7,6 @@
 mod finding;
 mod hops;
 mod links;
-mod marks;
 mod root;
 mod rules;
 mod warning;

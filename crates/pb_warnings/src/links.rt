@@ -2,9 +2,12 @@
 
 ghost use Rattle.std.specs.Prelude.{◌≡◌, ◌==◌};
 ghost use Rattle.std.specs.List.{list_any};
+ghost use Rattle.pb_joins.specs.Joins.{TellsJoined};
+ghost use Rattle.pb_lan.specs.Plans.{IsSound};
 ghost use Rattle.pb_warnings.specs.Links.{is_member, passes, touches};
 
-use pb_lan::{End, LinkPlan};
+use pb_joins::marks;
+use pb_lan::{End, LinkPlan, Plan};
 
 /// The links that a path may take.
 #[derive(Clone, Copy)]
@@ -40,6 +43,14 @@ pub(crate) fn passes(links: Links, link: &LinkPlan) -> bool
         Links::All => true,
         Links::Service(service) => is_member(service, &link.a) && is_member(service, &link.b),
     }
+}
+
+/// Returns a mark for each bridge. Two bridges have the same mark if and only if these links join them.
+pub(crate) fn marks_by(plan: &Plan, links: Links) -> [u8; 32]
+    requires { IsSound plan.now }
+    ensures { TellsJoined plan.now (passes links) result }
+{
+    marks(plan, &|link: &LinkPlan| passes(links, link))
 }
 
 /// Checks whether the link ends at the bridge.

@@ -10,11 +10,11 @@ ghost use Rattle.pb_warnings.specs.Rules.{NeverTick, IsUnlinked, IsTooFar, IsUne
 ghost use Rattle.pb_warnings.specs.Rules.{port_count, Holds};
 
 use crate::hops::{FARTHEST, hops};
-use crate::links::{Links, is_member, touches};
-use crate::marks::{mark_at, marks};
+use crate::links::{Links, is_member, marks_by, touches};
 use crate::root::root_of;
 use crate::warning::Warning;
 use pb_frame::index_of;
+use pb_joins::mark_at;
 use pb_lan::{Limits, LinkPlan, Plan, ServicePlan, Spanning};
 
 /// Checks whether bridges never tick in a run, although the plan has a spanning tree.
@@ -64,7 +64,7 @@ fn is_too_far(plan: &Plan, bridge: u8) -> bool
     if !have_tree(plan, root, bridge) {
         return false;
     }
-    let marks = marks(plan, Links::All);
+    let marks = marks_by(plan, Links::All);
     if mark_at(&marks, root) != mark_at(&marks, bridge) {
         return false;
     }
@@ -141,7 +141,7 @@ fn is_split(plan: &Plan, service: u8) -> bool
     requires { IsSound plan.now }
     ensures { IsTrue result ↔ IsSplit plan.now service }
 {
-    are_apart(plan, &marks(plan, Links::Service(service)), service)
+    are_apart(plan, &marks_by(plan, Links::Service(service)), service)
 }
 
 /// Checks whether a warning about a sound plan is due.

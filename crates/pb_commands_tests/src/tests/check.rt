@@ -156,6 +156,10 @@ fn a_refused_file_tells_the_rule(rt: HostRuntime) -> Result<(), Fail> {
         ),
         ("network = 5", "plan: 4 kind network\n"),
         ("wires = 1", "plan: 6 unknown wires\n"),
+        (
+            "\"a\\nfault: memory\" = 1",
+            "plan: 6 unknown a\\nfault: memory\n",
+        ),
     ] {
         says(&rt, alloc, &[part], (1, want))?;
     }

@@ -18,5 +18,6 @@ returns c =
           c.requires.up.is_calm);
       planned = planned;
       lawful = subst (λ p. IsLawfulRecord spanning_tree p last.rec) planned c.in_ok-ends_in.ensures.lawful;
+      enough = c.in_ok-ends_in.ensures.enough;
       ends_are = c.in_ok-ends_in.ensures.ends;
     }

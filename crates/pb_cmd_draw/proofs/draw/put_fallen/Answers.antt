@@ -8,7 +8,7 @@ use Rattle.pb_cmd_draw.proofs.draw.put_fallen.Goals as goal
 
 pub put_rested-requires-clause-plan : goal.put_rested-requires-clause-plan
 put_rested-requires-clause-plan c =
-    let fallen = rw c.in-None.is at c.in_ok-fault.ensures in
+    let fallen = rw c.in-None.is at c.in_ok-fault.ensures.falls in
     done-plan (fresh c.args.plan.now) c.disables.new.net (downs c.args.plan.now c.args.asked.now.downs.now) fallen.done
 
 pub returns-in_err-fault-clause-err : goal.returns-in_err-fault-clause-err
@@ -17,8 +17,8 @@ returns-in_err-fault-clause-err c =
     let plan = c.args.plan.now in
     let new = c.disables.new.net in
     let fault = c.in_err-fault.field-0.0 in
-    let b = subst (λ net. HasBroken fault net new) c.in_ok-net.ensures c.in_err-fault.ensures in
-    let caused = caused-broken 1000000000 fault (fresh plan) new b in
+    let b = subst (λ net. HasBroken fault net new) c.in_ok-net.ensures c.in_err-fault.ensures.err in
+    let caused = caused-broken 1000000000 fault (fresh plan) new c.in_err-fault.ensures.enough b in
     rw p.1 (subst (λ e. IsCaused 1000000000 e (fresh plan)) (sym p.2) caused)
 
 pub returns-in_err-rest-in-None-clause-err : goal.returns-in_err-rest-in-None-clause-err
@@ -26,7 +26,7 @@ returns-in_err-rest-in-None-clause-err c =
     let p = err_from_is_err_and c.from_residual-in_err-rest-in-None.result
     c.from_residual-in_err-rest-in-None.ensures.1 in
     let plan = c.args.plan.now in
-    let fallen = rw c.in-None.is at c.in_ok-fault.ensures in
+    let fallen = rw c.in-None.is at c.in_ok-fault.ensures.falls in
     let fault = c.in_err-rest-in-None.field-0.0 in
     let caused = caused-later 1000000000 fault (downs plan c.args.asked.now.downs.now) (fresh plan) c.disables.new.net
     fallen.done c.in_err-rest-in-None.ensures.err in
@@ -36,7 +36,7 @@ pub returns-in-Some-clause-ok : goal.returns-in-Some-clause-ok
 returns-in-Some-clause-ok c = (
   [],
   sym (append-nil (string_bytes c.args.out.now)),
-  (rw c.in-Some.is at c.in_ok-fault.ensures, refl),
+  (rw c.in-Some.is at c.in_ok-fault.ensures.falls, refl),
 )
 
 pub returns-in_ok-rest-in-None-clause-ok : goal.returns-in_ok-rest-in-None-clause-ok
@@ -48,7 +48,7 @@ returns-in_ok-rest-in-None-clause-ok c =
         found = c.requires.found;
         fallen = c.disables.new.net;
         falls = rw c.in-None.is at
-            c.in_ok-fault.ensures;
+            c.in_ok-fault.ensures.falls;
         drawing = t.2;
       },
     )

@@ -2,6 +2,7 @@ use Rattle.std.proofs.Common.{subst, sym}
 use Rattle.std.proofs.lemmas.Result.{err_from_is_err_and}
 use Rattle.pb_converge.proofs.LimitLemmas.{caused-failed}
 use Rattle.pb_converge.specs.Drives.{IsCaused}
+use Rattle.pb_converge.specs.Enough.{HasEnoughMemory}
 use Rattle.pb_lan.specs.LastShapes.{last_shape}
 use Rattle.pb_lan.specs.Records.{IsLawfulRecord}
 use Rattle.pb_relay.specs.Protocol.{spanning_tree}
@@ -12,14 +13,15 @@ pub returns-in_err-rest-clause-err : goal.returns-in_err-rest-clause-err
 returns-in_err-rest-clause-err c =
     let p = err_from_is_err_and c.from_residual.result c.from_residual.ensures.1 in
     let net = c.args.net in
-    let caused = caused-failed 1000000000 c.in_err-rest.field-0.0 net c.settle.new.net c.in_err-rest.ensures.err in
+    let caused = caused-failed 1000000000 c.in_err-rest.field-0.0 net c.settle.new.net c.in_err-rest.ensures.enough
+    c.in_err-rest.ensures.err in
     rw p.1 (subst (λ e. IsCaused 1000000000 e net) (sym p.2) caused)
 
 pub returns-clause-ok : goal.returns-clause-ok
 returns-clause-ok c =
     let plan = c.args.plan.now in
     let form = c.args.asked.now.format in
-    let t = c.in_ok-put_last.ensures in
+    let t = c.in_ok-put_last.ensures.picture in
     let last = subst (λ rec. IsPictureOf plan (last_shape plan rec) c.chosen_of-chosen.result form t.0)
     c.finish.ensures.record t.2 in
     let picture = subst (λ chosen. IsPictureOf plan (last_shape plan c.settle.new.net.rec) chosen form t.0)
@@ -34,6 +36,7 @@ returns-clause-ok c =
         rested = c.in_ok-rest.ensures.ok;
         planned = planned;
         lawful = lawful;
+        enough = subst HasEnoughMemory c.finish.ensures.record c.in_ok-put_last.ensures.enough;
         picture = picture;
       },
     )

@@ -10,11 +10,11 @@ returns c =
     let plan = c.args.plan.now in
     let shape = c.args.shape.now in
     let vid = vid_numbered plan c.args.service in
-    let color = color_of plan c.marks-marks.result c.args.failure in
+    let color = color_of plan c.marks_by-marks.result c.args.failure in
     let out = is_port_out plan c.args.failure in
-    let marks : AreMarks plan shape vid c.marks-marks.result =
-    subst (λ v. AreMarks plan shape v c.marks-marks.result) c.vid_numbered.ensures
-    (record { sound = c.requires; joined = c.marks-marks.ensures.joined; below = c.marks-marks.ensures.below }) in
+    let marks : AreMarks plan shape vid c.marks_by-marks.result =
+    subst (λ v. AreMarks plan shape v c.marks_by-marks.result) c.vid_numbered.ensures
+    (record { sound = c.requires; joined = c.marks_by-marks.ensures.joined; below = c.marks_by-marks.ensures.below }) in
     let ports : c.as_slice.result.now ≡ ports_of plan c.args.service = c.as_slice.ensures.value
     ∙ c.in_ok-ports.ensures in
     IfOk-weaker c.sites_of.result
@@ -22,5 +22,5 @@ returns c =
     (λ sites. AreGroups plan shape c.args.failure c.args.service vid sites.items)
     (λ sites e. subst (λ z. AreGroups plan shape c.args.failure c.args.service vid z)
     (sym (e ∙ ap (λ ps. map (site_of color out ps) ps) ports))
-    (groups_are plan shape c.args.failure c.args.service vid c.marks-marks.result marks))
+    (groups_are plan shape c.args.failure c.args.service vid c.marks_by-marks.result marks))
     c.sites_of.ensures

@@ -1,6 +1,9 @@
-use Rattle.std.proofs.Common.{string_bytes}
+use Rattle.std.proofs.Common.{◌∷◌, [], string_bytes}
+use Rattle.std.proofs.lemmas.Result.{IfErr-weaker, IfOk-weaker}
+use Rattle.pb_converge.proofs.LimitLemmas.{caused-later}
+use Rattle.pb_cmd_trace.proofs.DoneLemmas.{walked-run}
 use Rattle.pb_cmd_trace.proofs.StoryLemmas.{follow_joined}
-use Rattle.std.proofs.lemmas.Result.{IfOk-weaker}
+use Rattle.pb_cmd_trace.specs.declared.onward.Onward.TheVariants.{Feed}
 use Rattle.pb_cmd_trace.proofs.frame.follow.Goals as goal
 
 pub returns-clause-ok : goal.returns-clause-ok
@@ -12,3 +15,12 @@ returns-clause-ok c =
     (string_bytes c.args.out.now) (string_bytes c.tell_entry.new.out) (string_bytes c.walk.new.out)
     (string_bytes c.conclude.new.out) e.2 w.2 f.2 e.1 w.1 f.1)
     c.conclude.ensures.ok
+
+pub returns-clause-err : goal.returns-clause-err
+returns-clause-err c =
+    let old = c.args.net.now in
+    let mid = c.walk.new.net in
+    let w = c.in_ok-course.ensures.ok in
+    let run = walked-run c.args.plan.now (Feed c.args.port ∷ []) c.in_ok-course.course old mid w.0 w.2 in
+    IfErr-weaker c.conclude.result _ _ (λ fault h. caused-later 1000000 fault run.0 old mid run.1 h)
+    c.conclude.ensures.err

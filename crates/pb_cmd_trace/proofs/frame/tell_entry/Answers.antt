@@ -9,6 +9,7 @@ returns c = (
   record {
     step = c.newest.result.1.now;
     newest = c.newest.ensures.newest;
+    lawful = c.newest.ensures.lawful;
     number_is = c.entry_number.ensures;
     text_is = refl;
   },

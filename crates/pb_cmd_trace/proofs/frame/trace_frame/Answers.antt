@@ -1,5 +1,10 @@
+use Rattle.std.proofs.Common.{◌∷◌, []}
+use Rattle.std.proofs.lemmas.Result.{IfErr-weaker, IfOk-weaker}
+use Rattle.pb_converge.proofs.DriveLemmas.{done-one}
+use Rattle.pb_converge.proofs.LimitLemmas.{caused-full, caused-later, caused-told}
+use Rattle.pb_converge.specs.declared.fault.DriveFault.TheVariants.{Steps}
+use Rattle.pb_lan.specs.declared.event.Event.TheVariants.{Poll}
 use Rattle.pb_cmd_trace.proofs.StoryLemmas.{frame_followed, port_there, port_grew}
-use Rattle.std.proofs.lemmas.Result.{IfOk-weaker}
 use Rattle.pb_cmd_trace.proofs.frame.trace_frame.Goals as goal
 
 pub follow-requires-clause-has : goal.follow-requires-clause-has
@@ -22,3 +27,21 @@ returns-in-Ok-Done-clause-ok c =
       frame_followed c.args.plan.now c.args.port c.args.frame fate c.in-Ok-Done.field-0-0
           c.args.net.now c.step.new.self c.follow.new.net f.0 h f.2,
     )) c.follow.ensures.ok
+
+pub returns-in-Ok-Done-clause-err : goal.returns-in-Ok-Done-clause-err
+returns-in-Ok-Done-clause-err c =
+    let old = c.args.net.now in
+    let new = c.step.new.self in
+    let event = Poll c.args.port c.args.frame in
+    let h = rw c.in-Ok-Done.field-0-is at c.in-Ok-Done.ensures in
+    let done = done-one old new event c.in-Ok-Done.field-0-0 h in
+    IfErr-weaker c.follow.result _ _ (λ fault k. caused-later 1000000 fault (event ∷ []) old new done k)
+    c.follow.ensures.err
+
+pub returns-in-Err-StepLimit-clause-err : goal.returns-in-Err-StepLimit-clause-err
+returns-in-Err-StepLimit-clause-err c =
+    let old = c.args.net.now in
+    let new = c.step.new.self in
+    let h = rw c.in-Err-StepLimit.field-0-is at c.in-Err-StepLimit.ensures in
+    caused-told 1000000 Steps c.fault_in.result old new c.fault_in.ensures.fault c.fault_in.ensures.enough
+    (caused-full 1000000 (Poll c.args.port c.args.frame) old new h)

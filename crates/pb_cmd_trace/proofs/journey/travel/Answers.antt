@@ -1,6 +1,10 @@
-use Rattle.std.proofs.Common.{◌++◌, string_bytes, ap, ◌∙◌, append_assoc}
+use Rattle.std.proofs.Common.{◌++◌, take, string_bytes, ap, subst, sym, ◌∙◌, append_assoc}
+use Rattle.std.proofs.lemmas.Result.{err_from_is_err_and}
+use Rattle.pb_converge.proofs.LimitLemmas.{caused-later}
+use Rattle.pb_converge.specs.Drives.{IsCaused}
 use Rattle.pb_frame.proofs.Things.{here_is}
 use Rattle.pb_names.specs.Numbers.{port_named}
+use Rattle.pb_cmd_trace.proofs.DoneLemmas.{stories-run}
 use Rattle.pb_cmd_trace.proofs.StoryLemmas.{stories-more, round_told, entry_lacks_port, entry_is_none}
 use Rattle.pb_cmd_trace.proofs.journey.travel.Goals as goal
 
@@ -59,3 +63,14 @@ loop-index-preserved c =
           f.1 f.2;
       plan = c.in_ok-trace_entry.ensures.plan;
     }
+
+pub returns-in_err-trace_entry-clause-err : goal.returns-in_err-trace_entry-clause-err
+returns-in_err-trace_entry-clause-err c =
+    let p = err_from_is_err_and c.from_residual.result c.from_residual.ensures.1 in
+    let old = c.args.net.now in
+    let mid = c.loop-index.net in
+    let before = c.loop-index.invariant.told in
+    let run = stories-run c.args.plan.now (take c.loop-index.index c.args.entries.now) old mid before.0 before.2 in
+    let caused = caused-later 1000000 c.in_err-trace_entry.field-0.0 run.0 old mid run.1
+    c.in_err-trace_entry.ensures.err in
+    rw p.1 (subst (λ e. IsCaused 1000000 e old) (sym p.2) caused)

@@ -1,24 +1,45 @@
-use Rattle.std.proofs.Common.{[], string_bytes, sym, append-nil}
-use Rattle.std.proofs.lemmas.Result.{IfOk-weaker}
+use Rattle.std.proofs.Common.{[], string_bytes, subst, sym, append-nil}
+use Rattle.std.proofs.lemmas.Result.{err_from_is_err_and, IfErr-weaker, IfOk-weaker}
 use Rattle.pb_converge.proofs.DriveLemmas.{done-plan}
+use Rattle.pb_converge.proofs.LimitLemmas.{caused-broken, caused-later}
+use Rattle.pb_converge.specs.Drives.{HasBroken, IsCaused}
 use Rattle.pb_converge.specs.Falls.{fresh, downs}
 use Rattle.pb_cmd_trace.proofs.StoryLemmas.{fallen_trace}
 use Rattle.pb_cmd_trace.proofs.trace.put_trace.Goals as goal
 
 pub put_stories-requires-clause-plan : goal.put_stories-requires-clause-plan
 put_stories-requires-clause-plan c =
-    let fallen = rw c.in-None.is at c.in_ok-fault.ensures in
-    done-plan (fresh c.args.plan.now) c.falls.new.net (downs c.args.plan.now c.args.asked.now.downs.now) fallen.done
+    let fallen = rw c.in-None.is at c.in_ok-fault.ensures.falls in
+    done-plan (fresh c.args.plan.now) c.disables.new.net (downs c.args.plan.now c.args.asked.now.downs.now) fallen.done
 
-pub returns-in-Some : goal.returns-in-Some
-returns-in-Some c = ([], sym (append-nil (string_bytes c.args.out.now)), rw c.in-Some.is at c.in_ok-fault.ensures)
+pub returns-in-Some-clause-ok : goal.returns-in-Some-clause-ok
+returns-in-Some-clause-ok c =
+    ([], sym (append-nil (string_bytes c.args.out.now)), rw c.in-Some.is at c.in_ok-fault.ensures.falls)
 
-pub returns-in-None : goal.returns-in-None
-returns-in-None c =
-    let fallen = rw c.in-None.is at c.in_ok-fault.ensures in
+pub returns-in-None-clause-ok : goal.returns-in-None-clause-ok
+returns-in-None-clause-ok c =
+    let fallen = rw c.in-None.is at c.in_ok-fault.ensures.falls in
     IfOk-weaker c.put_stories.result _ _
     (λ end t. (
       t.0,
       t.1,
-      fallen_trace c.args.plan.now c.args.asked.now end c.falls.new.net t.0 fallen t.2,
-    )) c.put_stories.ensures
+      fallen_trace c.args.plan.now c.args.asked.now end c.disables.new.net t.0 fallen t.2,
+    )) c.put_stories.ensures.ok
+
+pub returns-in_err-fault-clause-err : goal.returns-in_err-fault-clause-err
+returns-in_err-fault-clause-err c =
+    let p = err_from_is_err_and c.from_residual-in_err-fault.result c.from_residual-in_err-fault.ensures.1 in
+    let plan = c.args.plan.now in
+    let new = c.disables.new.net in
+    let fault = c.in_err-fault.field-0.0 in
+    let b = subst (λ net. HasBroken fault net new) c.in_ok-net.ensures c.in_err-fault.ensures.err in
+    let caused = caused-broken 1000000 fault (fresh plan) new c.in_err-fault.ensures.enough b in
+    rw p.1 (subst (λ e. IsCaused 1000000 e (fresh plan)) (sym p.2) caused)
+
+pub returns-in-None-clause-err : goal.returns-in-None-clause-err
+returns-in-None-clause-err c =
+    let plan = c.args.plan.now in
+    let fallen = rw c.in-None.is at c.in_ok-fault.ensures.falls in
+    IfErr-weaker c.put_stories.result _ _
+    (λ fault h. caused-later 1000000 fault (downs plan c.args.asked.now.downs.now) (fresh plan) c.disables.new.net
+    fallen.done h) c.put_stories.ensures.err

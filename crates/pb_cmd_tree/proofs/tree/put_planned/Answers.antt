@@ -4,8 +4,8 @@ use Rattle.pb_cmd_tree.specs.TreeTexts.{given_lines, IsGivenText}
 use Rattle.pb_names.proofs.TextLemmas.{join_three}
 use Rattle.pb_cmd_tree.proofs.tree.put_planned.Goals as goal
 
-pub returns : goal.returns
-returns c =
+pub returns-clause-text : goal.returns-clause-text
+returns-clause-text c =
     let plan = c.args.plan.now in
     let shape = c.in_ok-shape.shape in
     let old = string_bytes c.args.out.now in
@@ -15,6 +15,6 @@ returns c =
       given ++ f.0 ++ s.0,
       join_three old given f.0 s.0 (string_bytes c.put_given.new.out) (string_bytes c.put_forest.new.out)
           (string_bytes c.put_services.new.out) c.in_ok-put_given.ensures f.1 s.1,
-      subst (λ sh. IsGivenText plan sh (given ++ f.0 ++ s.0)) c.in_ok-shape.ensures
+      subst (λ sh. IsGivenText plan sh (given ++ f.0 ++ s.0)) c.in_ok-shape.ensures.shape
           (record { forest = f.0; is_forest = f.2; services = s.0; are_services = s.2; text_is = refl }),
     )) c.put_services.ensures

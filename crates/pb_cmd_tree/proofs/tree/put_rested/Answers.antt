@@ -3,6 +3,7 @@ use Rattle.std.proofs.lemmas.Result.{err_from_is_err_and}
 use Rattle.pb_converge.proofs.LimitLemmas.{caused-failed}
 use Rattle.pb_converge.proofs.RestLemmas.{rest_in}
 use Rattle.pb_converge.specs.Drives.{IsCaused}
+use Rattle.pb_converge.specs.Enough.{HasEnoughMemory}
 use Rattle.pb_converge.specs.Rests.{rest_line}
 use Rattle.pb_lan.specs.LastShapes.{last_shape}
 use Rattle.pb_report.specs.ForestTexts.{IsForestText}
@@ -15,7 +16,8 @@ pub returns-in_err-rest-clause-err : goal.returns-in_err-rest-clause-err
 returns-in_err-rest-clause-err c =
     let p = err_from_is_err_and c.from_residual.result c.from_residual.ensures.1 in
     let net = c.args.net in
-    let caused = caused-failed 1000000000 c.in_err-rest.field-0.0 net c.settle.new.net c.in_err-rest.ensures.err in
+    let caused = caused-failed 1000000000 c.in_err-rest.field-0.0 net c.settle.new.net c.in_err-rest.ensures.enough
+    c.in_err-rest.ensures.err in
     rw p.1 (subst (λ e. IsCaused 1000000000 e net) (sym p.2) caused)
 
 pub returns-in_ok-put_planned-in-Fixed-clause-ok : goal.returns-in_ok-put_planned-in-Fixed-clause-ok
@@ -23,7 +25,7 @@ returns-in_ok-put_planned-in-Fixed-clause-ok c =
     let plan = c.args.plan.now in
     let last = c.settle.new.net in
     let rest = c.in_ok-rest.rest in
-    let t = c.in_ok-put_planned-in-Fixed.ensures in
+    let t = c.in_ok-put_planned-in-Fixed.ensures.text in
     let given = subst (λ r. IsGivenText plan (last_shape plan r) t.0) c.finish.ensures.record t.2 in
     let fits = rest_in c.args.ticks 1000000000 rest plan.spanning c.args.net last (ap (λ p. p.spanning) c.requires.plan)
     c.in_ok-rest.ensures.ok in (
@@ -36,6 +38,7 @@ returns-in_ok-put_planned-in-Fixed-clause-ok c =
         planned = c.settle.ensures.plan;
         lawful = lawful_end plan last c.finish.result c.settle.ensures.plan c.finish.ensures.record
             c.finish.ensures.lawful;
+        enough = subst HasEnoughMemory c.finish.ensures.record c.in_ok-put_planned-in-Fixed.ensures.enough;
         trees = given_tree plan last.rec plan.spanning rest t.0 fits c.in-Fixed.is given;
       },
     )
@@ -47,7 +50,7 @@ returns-in_ok-put_last_forest-in-Rstp-clause-ok c =
     let rest = c.in_ok-rest.rest in
     let front = rest_line rest in
     let trees = protocol_lines plan last.rec in
-    let f = c.in_ok-put_last_forest-in-Rstp.ensures in
+    let f = c.in_ok-put_last_forest-in-Rstp.ensures.text in
     let text = front ++ trees ++ f.0 in
     let forest = subst (λ r. IsForestText plan (last_shape plan r) f.0) c.finish-in-Rstp.ensures.record f.2 in
     let fits = rest_in c.args.ticks 1000000000 rest plan.spanning c.args.net last (ap (λ p. p.spanning) c.requires.plan)
@@ -63,6 +66,8 @@ returns-in_ok-put_last_forest-in-Rstp-clause-ok c =
         planned = c.settle.ensures.plan;
         lawful = lawful_end plan last c.finish-in-Rstp.result c.settle.ensures.plan c.finish-in-Rstp.ensures.record
             c.finish-in-Rstp.ensures.lawful;
+        enough = subst HasEnoughMemory c.finish-in-Rstp.ensures.record
+            c.in_ok-put_last_forest-in-Rstp.ensures.enough;
         trees = protocol_tree plan last.rec plan.spanning rest text fits c.in-Rstp.is
             (record { forest = f.0; is_forest = forest; text_is = refl });
       },

@@ -8,7 +8,7 @@ use Rattle.pb_cmd_tree.proofs.tree.put_trees_with_downs.Goals as goal
 
 pub put_rested-requires-clause-plan : goal.put_rested-requires-clause-plan
 put_rested-requires-clause-plan c =
-    let fallen = rw c.in-None.is at c.in_ok-fault.ensures in
+    let fallen = rw c.in-None.is at c.in_ok-fault.ensures.falls in
     done-plan (fresh c.args.plan.now) c.disables.new.net (downs c.args.plan.now c.args.downs.now) fallen.done
 
 pub returns-in_err-fault-clause-err : goal.returns-in_err-fault-clause-err
@@ -17,20 +17,20 @@ returns-in_err-fault-clause-err c =
     let plan = c.args.plan.now in
     let new = c.disables.new.net in
     let fault = c.in_err-fault.field-0.0 in
-    let b = subst (λ net. HasBroken fault net new) c.in_ok-net.ensures c.in_err-fault.ensures in
-    let caused = caused-broken 1000000000 fault (fresh plan) new b in
+    let b = subst (λ net. HasBroken fault net new) c.in_ok-net.ensures c.in_err-fault.ensures.err in
+    let caused = caused-broken 1000000000 fault (fresh plan) new c.in_err-fault.ensures.enough b in
     rw p.1 (subst (λ e. IsCaused 1000000000 e (fresh plan)) (sym p.2) caused)
 
 pub returns-in-Some-clause-ok : goal.returns-in-Some-clause-ok
 returns-in-Some-clause-ok c =
-    ([], sym (append-nil (string_bytes c.args.out.now)), rw c.in-Some.is at c.in_ok-fault.ensures)
+    ([], sym (append-nil (string_bytes c.args.out.now)), rw c.in-Some.is at c.in_ok-fault.ensures.falls)
 
 pub returns-in_err-put_rested-in-None-clause-err : goal.returns-in_err-put_rested-in-None-clause-err
 returns-in_err-put_rested-in-None-clause-err c =
     let p = err_from_is_err_and c.from_residual-in_err-put_rested-in-None.result
     c.from_residual-in_err-put_rested-in-None.ensures.1 in
     let plan = c.args.plan.now in
-    let fallen = rw c.in-None.is at c.in_ok-fault.ensures in
+    let fallen = rw c.in-None.is at c.in_ok-fault.ensures.falls in
     let fault = c.in_err-put_rested-in-None.field-0.0 in
     let caused = caused-later 1000000000 fault (downs plan c.args.downs.now) (fresh plan) c.disables.new.net fallen.done
     c.in_err-put_rested-in-None.ensures.err in

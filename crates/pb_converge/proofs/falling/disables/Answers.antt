@@ -1,37 +1,14 @@
-use Rattle.std.proofs.Common.{map, take, subst, sym}
-use Rattle.std.proofs.lemmas.Result.{err_from_is_err_and}
-use Rattle.pb_converge.proofs.FallLemmas.{broken-later, refused_at, fallen_more}
-use Rattle.pb_converge.specs.Drives.{HasBroken, HaveDone}
-use Rattle.pb_converge.specs.Falls.{IsClear, all_down, downs, fresh, set_down}
+use Rattle.std.proofs.Common.{ap, ◌∙◌}
+use Rattle.pb_converge.proofs.DriveLemmas.{done-plan}
+use Rattle.pb_converge.proofs.LimitLemmas.{broken-told}
 use Rattle.pb_converge.proofs.falling.disables.Goals as goal
 
-pub returns-in-Some : goal.returns-in-Some
-returns-in-Some c =
-    refused_at c.args.plan.now c.args.names.now c.loop-index.index c.index-names-index.result c.as_str.result.now
-    c.in-Some.fault c.loop-index-test.true c.index-names-index.is c.as_str.ensures.value
-    (rw c.in-Some.is at c.in_ok-fault.ensures)
+pub fault_in-requires-clause-plan : goal.fault_in-requires-clause-plan
+fault_in-requires-clause-plan c =
+    let b = c.in-Err.ensures in
+    done-plan c.args.net.now c.fall_all.new.net b.events b.done ∙ ap (λ n. n.plan) c.requires.fresh
 
-pub loop-index-preserved : goal.loop-index-preserved
-loop-index-preserved c =
-    let plan = c.args.plan.now in
-    let mid = c.loop-index.net in
-    let new = c.fall_named.new.net in
-    let clear = subst (λ t. IsClear plan t) c.as_str.ensures.value (rw c.in-None.is at c.in_ok-fault.ensures) in
-    let one = subst (λ t. HaveDone mid (map set_down (all_down plan t)) new) c.as_str-in-None.ensures.value
-    c.in_ok-fall_named-in-None.ensures.done in (
-      c.in_ok-fall_named-in-None.ensures.plan,
-      fallen_more plan c.args.names.now c.loop-index.index c.index-names-index.result mid new
-          c.loop-index-test.true c.index-names-index.is c.loop-index.invariant.1 clear one,
-    )
-
-pub returns-in_err-fall_named-in-None : goal.returns-in_err-fall_named-in-None
-returns-in_err-fall_named-in-None c =
-    let p = err_from_is_err_and c.from_residual-in_err-fall_named-in-None.result
-    c.from_residual-in_err-fall_named-in-None.ensures.1 in
-    let plan = c.args.plan.now in
-    let new = c.fall_named.new.net in
-    let fault = c.in_err-fall_named-in-None.field-0.0 in
-    let b = broken-later fault (downs plan (take c.loop-index.index c.args.names.now)) (fresh plan) c.loop-index.net new
-    c.loop-index.invariant.1.done c.in_err-fall_named-in-None.ensures.err in
-    let same = subst (λ net. HasBroken fault net new) (sym c.requires.fresh) b in
-    rw p.1 (subst (λ e. HasBroken e c.args.net.now new) (sym p.2) same)
+pub returns-in-Err-clause-err : goal.returns-in-Err-clause-err
+returns-in-Err-clause-err c =
+    broken-told c.in-Err.fault c.fault_in.result c.args.net.now c.fall_all.new.net c.fault_in.ensures.fault
+    c.in-Err.ensures

@@ -1,6 +1,6 @@
 use Rattle.std.proofs.Common.{◌≡◌, ◌+◌, ◌-◌, Some, slice_get, sym, ap, subst, ◌∙◌}
 use Rattle.pb_warnings.proofs.HopLemmas.{nears_after}
-use Rattle.pb_warnings.proofs.PathLemmas.{end_number, link_there}
+use Rattle.pb_joins.proofs.JoinLemmas.{end_number, link_there}
 use Rattle.pb_warnings.specs.Hops.{relaxed, Nears}
 use Rattle.pb_warnings.proofs.hops.relax_all.Goals as goal
 

@@ -3,7 +3,7 @@ use Rattle.std.proofs.lemmas.Bool.{lt-ltb, ltb-true}
 use Rattle.pb_lan.specs.Plans.{IsNumber}
 use Rattle.pb_warnings.proofs.RuleLemmas.{far_above, far_from, far_joined, far_numbers}
 use Rattle.pb_warnings.specs.Hops.{TellsWithin}
-use Rattle.pb_warnings.specs.Paths.{mark_at}
+use Rattle.pb_joins.specs.Joins.{mark_at}
 use Rattle.pb_warnings.proofs.rules.is_too_far.Goals as goal
 
 pub returns-then-not-have_tree : goal.returns-then-not-have_tree
@@ -20,8 +20,8 @@ pub returns-then-mark_at : goal.returns-then-mark_at
 returns-then-mark_at c = (
   λ h. cc,
   λ far. absurd (c.if-mark_at.true
-      (c.mark_at.ensures ∙ ap (mark_at c.marks-marks.result) c.root_of-root.ensures
-      ∙ far_joined c.args.plan.now c.args.bridge c.marks-marks.result c.requires c.marks-marks.ensures far
+      (c.mark_at.ensures ∙ ap (mark_at c.marks_by-marks.result) c.root_of-root.ensures
+      ∙ far_joined c.args.plan.now c.args.bridge c.marks_by-marks.result c.requires c.marks_by-marks.ensures far
       ∙ sym c.mark_at-2.ensures)),
 )
 
@@ -31,9 +31,9 @@ returns c =
     let reaches = subst (λ r. TellsWithin plan r 20 c.hops.result) c.root_of-root.ensures c.hops.ensures in (
       λ h.
           let (rstp, in_root, in_bridge) = c.have_tree.ensures.0 c.if-not-have_tree.false in
-          far_from plan c.args.bridge c.marks-marks.result c.hops.result rstp in_bridge
-          (subst (λ r. IsNumber r 32) c.root_of-root.ensures in_root) c.marks-marks.ensures reaches
-          (ap (mark_at c.marks-marks.result) (sym c.root_of-root.ensures) ∙ sym c.mark_at.ensures
+          far_from plan c.args.bridge c.marks_by-marks.result c.hops.result rstp in_bridge
+          (subst (λ r. IsNumber r 32) c.root_of-root.ensures in_root) c.marks_by-marks.ensures reaches
+          (ap (mark_at c.marks_by-marks.result) (sym c.root_of-root.ensures) ∙ sym c.mark_at.ensures
           ∙ c.if-mark_at.false ∙ c.mark_at-2.ensures)
           (let above = ltb-true 20 c.mark_at-3.result h in omega (arith, above, c.mark_at-3.ensures)),
       λ far. lt-ltb 20 c.mark_at-3.result

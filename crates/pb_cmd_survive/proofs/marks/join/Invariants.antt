@@ -1,8 +1,0 @@
-use Rattle.std.proofs.Common.{◌≡◌, ◌++◌, map, take, drop, cond, nat_eq}
-use Rattle.pb_cmd_survive.proofs.marks.join.Given as goal
-
--- the marks so far are replaced, and the others are unchanged
-abbrev pub invariant-loop-mark : goal.invariant-loop-mark
-invariant-loop-mark l =
-    l.marks ≡ map (λ m. cond (nat_eq m l.gone) l.kept m) (take l.mark-index l.initial.marks)
-    ++ drop l.mark-index l.initial.marks

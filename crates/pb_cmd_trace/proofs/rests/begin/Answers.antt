@@ -1,0 +1,15 @@
+use Rattle.std.proofs.Common.{◌≤◌, arith, subst, sym}
+use Rattle.std.proofs.lemmas.Result.{err_from_is_err_and}
+use Rattle.pb_converge.proofs.LimitLemmas.{caused-failed, caused-lower}
+use Rattle.pb_converge.specs.Drives.{IsCaused}
+use Rattle.pb_cmd_trace.proofs.rests.begin.Goals as goal
+
+pub returns-in_err-rest-clause-err : goal.returns-in_err-rest-clause-err
+returns-in_err-rest-clause-err c =
+    let p = err_from_is_err_and c.from_residual.result c.from_residual.ensures.1 in
+    let old = c.args.net.now in
+    let fault = c.in_err-rest.field-0.0 in
+    let le : 1000000 ≤ 1000000000 = omega arith in
+    let caused = caused-lower 1000000000 1000000 fault old le
+    (caused-failed 1000000000 fault old c.settle.new.net c.in_err-rest.ensures.enough c.in_err-rest.ensures.err) in
+    rw p.1 (subst (λ e. IsCaused 1000000 e old) (sym p.2) caused)
