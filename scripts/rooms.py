@@ -1,4 +1,4 @@
-"""Rooms for the tests of try-signals: a temporary folder each, with plans and the processes that it started."""
+"""Rooms for tests of runs: a temporary folder each, with plans and the processes that it started."""
 import os
 import shutil
 import signal
