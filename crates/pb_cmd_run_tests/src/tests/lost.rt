@@ -8,6 +8,7 @@ use pb_frame::{Mac, Memory, Seq, Text};
 use pb_history::Tallies;
 use pb_lan::{
     BridgePlan, Item, NoRoom, Outcome, Plan, PortSet, Queues, Record, Refusals, Spanning, Step,
+    plan_is_sound,
 };
 use std::alloc::Global;
 use std::test::Fail;
@@ -112,6 +113,9 @@ fn counts(alloc: Global, times: u32) -> Result<Tallies, Memory>
 fn is_told(alloc: Global, (times, settled, wanted): Lost) -> Result<bool, Memory> {
     let counts = counts(alloc, times)?;
     let plan = alone(alloc)?;
+    if !plan_is_sound(&plan) {
+        return Ok(false);
+    }
     let lost = lost_of(alloc, &plan, &[], &counts, &settled)?;
     Ok(lost.as_str() == wanted)
 }
