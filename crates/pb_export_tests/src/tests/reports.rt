@@ -191,17 +191,8 @@ pub(super) const TREES: &[Said] = &[
     },
 ];
 
-/// Reports of `survive` on networks with something down at the start, or with a service without ports.
+/// Reports of `survive` on networks with something down at the start.
 pub(super) const IMPAIRED: &[Said] = &[
-    Said {
-        text: "nothing down: states given forest yes\n  service red:\nservice red has fewer than two ports\n\
-            not healthy with nothing down: 1 service\nchecked 0 links\n\
-            not healthy with nothing down: 1 service\n",
-        json: r#"{"nothing_down": {"forest": true, "loops": [], "services": [{"name": "red", "groups": []}],
-                "unhealthy": [{"service": "red", "fault": "too few ports"}]},
-            "acceptances": [], "failures": [], "healthy": false, "checked_links": 0, "unhealthy_services": 1,
-            "survives": false}"#,
-    },
     Said {
         text: "down: ring1 South\nnothing else down: settled ticks 3 forest yes\n  service red: C1 C2\n\
             healthy with nothing else down\nlink ring2 down: settled ticks 4 forest yes\n  service red: C1 | C2\n\
@@ -238,6 +229,15 @@ pub(super) const IMPAIRED: &[Said] = &[
 
 /// Reports of `survive`.
 pub(super) const SURVIVALS: &[Said] = &[
+    Said {
+        text: "nothing down: states given forest yes\n  service red:\nservice red has fewer than two ports\n\
+            not healthy with nothing down: 1 service\nchecked 0 links\n\
+            not healthy with nothing down: 1 service\n",
+        json: r#"{"nothing_down": {"forest": true, "loops": [], "services": [{"name": "red", "groups": []}],
+                "unhealthy": [{"service": "red", "fault": "too few ports"}]},
+            "acceptances": [], "failures": [], "healthy": false, "checked_links": 0, "unhealthy_services": 1,
+            "survives": false}"#,
+    },
     Said {
         text: FAILED,
         json: r#"{"nothing_down": {"settled": true, "ticks": 3, "forest": false, "loops": ["red"],
