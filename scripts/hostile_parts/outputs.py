@@ -1,0 +1,212 @@
+"""closed descriptors, closed and full pipes, and pipes as captures that nobody reads"""
+import fcntl
+import itertools
+import os
+import socket
+import subprocess
+import threading
+import time
+
+import common
+
+from hostile_parts import frames, memory
+from hostile_parts.attack import PROGRAM, crash
+from hostile_parts.control import ask
+from hostile_parts.limits import capture, replay, ring
+
+CLOSED = ["<&-", ">&-", "2>&-"]
+# Seconds within which `--seconds 2` ends, and `stop`. One that is late is tried once more: the machine may be busy.
+AFTER_TWO, AFTER_STOP, GIVEN_UP = 4, 2, 10
+
+
+class Listener:
+    """A peer that takes all that comes."""
+
+    def __init__(self, path):
+        self.listening, self.got = socket.socket(socket.AF_UNIX, socket.SOCK_STREAM), b""
+        self.listening.bind(str(path))
+        self.listening.listen(1)
+        self.listening.settimeout(20)
+        self.thread = threading.Thread(target=self.take, daemon=True)
+        self.thread.start()
+
+    def take(self):
+        try:
+            stream, _ = self.listening.accept()
+            stream.shutdown(socket.SHUT_WR)
+            while part := stream.recv(65536):
+                self.got += part
+        except OSError:
+            pass
+
+    def join(self):
+        self.thread.join(20)
+        self.listening.close()
+
+
+def closed_runs(part):
+    """Closes descriptors of runs with captures and a peer: what these get is the frames alone."""
+    peer_table = frames.port("P", "B1", 7, "red", 'kind = "socket"\npath = "peer"')
+    ways = [it for count in range(4) for it in itertools.combinations(CLOSED, count)]
+    for which in ways:
+        for more in ("", " --strict --progress --format json", " --control control")[: part.times(3)]:
+            with part.room("closed") as room:
+                room.write("plan.toml", replay(["R2.out", "R3.out"]) + peer_table)
+                room.write("in", capture(300))
+                peer = Listener(room.path / "peer")
+                words = f'exec "$0" run{more} --seconds 20 plan.toml {" ".join(which)}'
+                ended = room.run("sh", "-c", words, PROGRAM)
+                peer.join()
+                why = crash(ended) or wrong_copies(room, peer.got)
+                if not why and ended.status not in ((0, 3) if ">&-" in which else (0,)):
+                    why = f"exit status {ended.status}"
+                part.judge("outputs, closed descriptors, run", why, room, ended)
+
+
+def wrong_copies(room, octets):
+    """Returns what is wrong with the written captures and with what a peer got, or None."""
+    wanted = frames.reads(room.read("in"))[0]
+    for name in ("R2.out", "R3.out"):
+        if frames.written(room.read(name)) != (wanted, 0):
+            return f"{name} has not the frames that entered, and them alone"
+    return None if octets == frames.stream_of(wanted) else "the peer got other octets than the frames"
+
+
+def closed(part):
+    """Closes descriptors of the other commands: the status is the same, or 3, and files are as they were."""
+    ways = [it for count in range(1, 4) for it in itertools.combinations(CLOSED, count)]
+    files = {"plan.toml": (memory.EXAMPLES / "two-bridges.toml").read_bytes(), "ring.toml": ring(4)}
+    for kind, words in memory.VERDICTS.items():
+        with part.room("closed") as room:
+            memory.fill(room, files)
+            whole = room.run(PROGRAM, *words)
+        for which in part.chance("closed", kind).sample(ways, part.times(len(ways))):
+            with part.room("closed") as room:
+                memory.fill(room, files)
+                ended = room.run("sh", "-c", f'exec "$0" "$@" {" ".join(which)}', PROGRAM, *map(str, words))
+                part.judge("outputs, closed descriptors", wrong_closed(room, ended, whole, which, files), room, ended)
+
+
+def wrong_closed(room, ended, whole, which, files):
+    """Returns what is wrong with a command whose descriptors are closed, by its end with all of them."""
+    if why := crash(ended):
+        return why
+    if ended.status not in (whole.status, 3):
+        return f"exit status {ended.status}, expected {whole.status}"
+    if ">&-" not in which and ended.out != whole.out:
+        return "another output"
+    return None if files == {name: room.read(name) for name in room.names()} else "files changed"
+
+
+def closed_pipes(part):
+    """Has commands print to a pipe that nobody reads any more."""
+    rows = {**memory.VERDICTS, **memory.RUNS, "flat": ["flat", "3"]}
+    for kind, words in rows.items():
+        with part.room("pipe") as room:
+            memory.fill(room, {"plan.toml": ring(4), "ring.toml": ring(4), "run.toml": memory.run_plan(),
+                               "in": capture(20)})
+            reading, writing = os.pipe()
+            os.close(reading)
+            ended = room.run(PROGRAM, *words, given=b"hop\n" * 9, stdout=writing)
+            os.close(writing)
+            why = crash(ended) or (None if ended.status == 3 else f"{kind}: exit status {ended.status}")
+            part.judge("outputs, closed pipe", why, room, ended)
+
+
+def full_pipe():
+    """Returns both ends of a pipe that takes nothing more."""
+    reading, writing = os.pipe()
+    fcntl.fcntl(writing, fcntl.F_SETFL, os.O_NONBLOCK)
+    try:
+        while os.write(writing, b"x" * 4096):
+            pass
+    except BlockingIOError:
+        fcntl.fcntl(writing, fcntl.F_SETFL, 0)
+    return reading, writing
+
+
+def endless(outputs):
+    """Returns a plan that never drains, with records in these files."""
+    return replay(outputs) + frames.port("L", "B1", 9, "red", 'kind = "socket"\nlisten = "l.sock"')
+
+
+def late(room, words, how, is_stop, prepare):
+    """Runs a plan until it ends by --seconds or by `stop`. Returns how long the end took, or None if none came."""
+    with prepare(room):
+        begun = time.monotonic()
+        more = [] if is_stop else ["--seconds", "2"]
+        process = room.start(PROGRAM, *words, *more, "--control", "control", "plan.toml", **how)
+        if is_stop:
+            common.wait_for(room.path / "control")
+            time.sleep(1.5)
+            begun = time.monotonic()
+            threading.Thread(target=ask, args=(room.path / "control", b"stop\n"), daemon=True).start()
+        try:
+            process.wait(GIVEN_UP)
+            return time.monotonic() - begun
+        except subprocess.TimeoutExpired:
+            return None
+
+
+class Reader:
+    """Opens a named pipe as a reader that takes nothing."""
+
+    def __init__(self, room, is_there):
+        os.mkfifo(room.path / "R2.out")
+        self.file = os.open(room.path / "R2.out", os.O_RDONLY | os.O_NONBLOCK) if is_there else None
+
+    def __enter__(self):
+        return self
+
+    def __exit__(self, *_):
+        if self.file is not None:
+            os.close(self.file)
+
+
+class Stuck:
+    """Standard error is a full pipe that nobody reads."""
+
+    def __init__(self, how):
+        self.ends = full_pipe()
+        how["stderr"] = self.ends[1]
+
+    def __enter__(self):
+        return self
+
+    def __exit__(self, *_):
+        for end in self.ends:
+            os.close(end)
+
+
+def timely(part, kind, weakness, words, prepare):
+    """Has runs end by --seconds and by `stop`."""
+    for is_stop in (False, True):
+        most, took = (AFTER_STOP if is_stop else AFTER_TWO), None
+        for _ in range(2):
+            with part.room("timely") as room:
+                room.write("plan.toml", endless(["R2.out", "R3.out"]))
+                room.write("in", capture(5000))
+                how = {}
+                took = late(room, words, how, is_stop, lambda room: prepare(room, how))
+            if took is not None and took <= most:
+                break
+        end = "stop" if is_stop else "--seconds 2"
+        is_late = took is None or took > most
+        why = f"{end}: " + (f"no end in {GIVEN_UP} s" if took is None else f"{took:.1f} s") if is_late else None
+        part.judge(kind, why, weakness=weakness)
+        part.note(kind, why or "")
+
+
+LATE = {
+    "a pipe without a reader": (["run"], lambda room, _: Reader(room, False)),
+    "a pipe whose reader stalls": (["run"], lambda room, _: Reader(room, True)),
+    "standard error full": (["run", "--progress"], lambda _, how: Stuck(how)),
+}
+
+
+def attack(part):
+    closed_runs(part)
+    closed(part)
+    closed_pipes(part)
+    for kind, (words, prepare) in LATE.items():
+        timely(part, f"outputs, {kind}", kind, words, prepare)
