@@ -49,8 +49,8 @@ fn check_tallies(tallies: &Tallies) -> Result<(), Memory>
     Ok(())
 }
 
-/// Checks that no allocation failed in the steps of a record. A bridge that lacks memory drops what it can't store, also
-/// a BPDU, and such a record says nothing of the plan.
+/// Checks that no allocation failed in the steps of a record. A bridge that lacks memory drops what it can't store,
+/// also a BPDU, and such a record says nothing of the plan.
 ///
 /// # Errors
 ///

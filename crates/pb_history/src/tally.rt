@@ -171,8 +171,8 @@ impl Tally {
         self.drops.at(port, reason)
     }
 
-    /// Returns how many frames that a bridge's local port, 1 to 16, received were relayed to no port: there was no other
-    /// Forwarding port of their VLAN, or none where their destination is.
+    /// Returns how many frames that a bridge's local port, 1 to 16, received were relayed to no port: there was no
+    /// other Forwarding port of their VLAN, or none where their destination is.
     pub fn relayed_nowhere(&self, port: u8) -> u64
         requires { port ≤ 16 }
         ensures { result ≡ count_by (goes_nowhere port) self.now }

@@ -29,6 +29,7 @@ impl Model for PortList {
 
 impl PortList {
     /// Returns an empty list.
+    #[inline(always)]
     pub fn new() -> PortList
         ensures { result ≡ [] }
     {
@@ -49,6 +50,7 @@ impl PortList {
 
     /// Appends a port if it is wanted. Its place is written either way, which spares a branch that no processor can
     /// foresee.
+    #[inline(always)]
     pub(crate) fn push_if(&mut self, port: u8, is_wanted: bool)
         requires { length self.old < 16 }
         ensures { self.new ≡ self.old ++ (if is_wanted then port ∷ [] else []) }
@@ -58,6 +60,7 @@ impl PortList {
     }
 
     /// Returns the ports, in their order.
+    #[inline(always)]
     pub fn as_slice(&self) -> &[u8]
         ensures ports { result.now ≡ self.now }
         ensures few { length result.now ≤ 16 }

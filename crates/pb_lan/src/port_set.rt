@@ -81,6 +81,7 @@ impl PortSet {
     }
 
     /// Returns the ports as a list, ascending.
+    #[inline(always)]
     pub fn list(&self) -> PortList
         ensures ports { result ≡ self.now }
         ensures few { length result ≤ 16 }

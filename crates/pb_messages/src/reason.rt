@@ -29,8 +29,8 @@ pub fn put_reason(out: &mut String, reason: Reason) -> Result<(), Memory>
 }
 
 /// Returns the word for the frames that are counted under a number: the drop reason, `reserved` for all reserved
-/// addresses, or `no-port` for frames that were relayed to no port. The numbers are those of `drop_number` and `NO_PORT`
-/// of pb_history. Every number above 8 gives `no-port`.
+/// addresses, or `no-port` for frames that were relayed to no port. The numbers are those of `drop_number` and
+/// `NO_PORT` of pb_history. Every number above 8 gives `no-port`.
 pub fn drop_word(number: u8) -> &'static str
     ensures { result.now ≡ drop_word number }
 {

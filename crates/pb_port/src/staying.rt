@@ -151,8 +151,8 @@ impl<S: Line + Drop> Port for StayingPort<S> {
             (S.failed self.old.line) (S.failed self.new.line) }
         ensures ended { EndedBy (heard result self.new.frames.ended) self.old.frames.ended self.new.frames.ended }
         ensures left { IfSome self.new.frames.ended (λ _. result ≡ Polled.Nothing) }
-        ensures entered { self.new.entered ≡ held_sum self.old.entered (given_count result) }
-        ensures kept { (self.new.sender ≡ self.old.sender) × (self.new.left ≡ self.old.left) }
+        ensures entered { (self.new.entered ≡ held_sum self.old.entered (given_count result))
+            × (self.new.sender ≡ self.old.sender) × (self.new.left ≡ self.old.left) }
     {
         let answer = self.frames.poll(&mut self.line);
         match self.frames.ending() {

@@ -192,19 +192,20 @@ impl Bridge {
     {
         let ports = &self.ports;
         let local = ports.at(index_of(port));
-        match Load::new(self.alloc, ports, local, &item.wire) {
+        let load = Load::new(self.alloc, ports, local, &item.wire);
+        match &load {
             Ok(load) => self.carry(port, item, vid, load),
             Err(_) => self.give_up(port, item),
         }
     }
 
     /// Learns the source of an item, chooses its ports and queues its copies there.
-    fn carry(&mut self, port: u8, item: Item, vid: u16, load: Load) -> Option<Step>
+    fn carry(&mut self, port: u8, item: Item, vid: u16, load: &Load) -> Option<Step>
         requires used { is_used (port_at self.old.plan self.old.number port) ≡ true }
         requires reserved { self.old.is_reserved ≡ true }
         requires ruling { ruling spanning_tree self.old.plan self.old.number self.old.steps port item ≡ Carries vid }
         requires load { IsLoadedAt self.old.plan self.old.number (port_at self.old.plan self.old.number port)
-            item.wire load }
+            item.wire load.now }
         ensures { HasTaken self.old port item result self.new }
     {
         let frame = item.wire.as_slice();
@@ -213,7 +214,7 @@ impl Bridge {
         let at = sought(table, vid, frame, self.clock);
         let chosen = choose(&self.ports, &self.forwarding.states, port, vid, at);
         let backlog = &mut self.forwarding.backlog;
-        let refused = queue_copies(backlog, &chosen, &self.ports, &load, &item);
+        let refused = queue_copies(backlog, &chosen, &self.ports, load, &item);
         let outcome = Outcome::Relayed { chosen, refused };
         append_receive(&mut self.steps, port, item, Some(learnt), outcome)
     }

@@ -21,7 +21,7 @@ pub use fault::{RunCause, RunFault};
 pub use outside::Held;
 pub use pb_frame::Memory;
 pub use pb_lan::Limits;
-pub use pb_threads::{Bells, Dropped, Gate, Go, PortView, Wish};
+pub use pb_threads::{Bells, Dropped, Gate, Go, PortView, StationView, Wish};
 pub use pb_workers::{
     Access, AccessGift, Book, BridgeGift, BridgeWorker, CustomerGift, CustomerWorker, LaneGift,
     LaneWorker, Last, Mode,

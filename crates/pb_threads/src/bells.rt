@@ -1,5 +1,6 @@
 //! What wakes workers that sleep. No contract speaks of it: a wake that is missed is a delay, and ends nothing.
 
+use crate::gate::Gate;
 use pb_lan::{Place, Plan};
 use std::alloc::{AllocError, Global};
 use std::sync::Wait;
@@ -26,23 +27,27 @@ struct Bell {
 
 impl Bell {
     /// Sleeps until the bell rings, at most this long, if the worker is drowsy. Makes it drowsy if it is awake. Returns
-    /// whether it slept and no bell rang.
-    fn doze<R: Wait>(&self, rt: &R, time: Duration) -> bool {
+    /// whether it slept and no bell rang. The worker of a place that the gate watches sleeps in the gate.
+    fn doze<R: Wait, G: Gate>(&self, rt: &R, gate: &G, place: Place, time: Duration) -> bool {
         if self.state.load(Ordering::SeqCst) != DROWSY {
             self.state.store(DROWSY, Ordering::SeqCst);
             return false;
         }
-        self.state.park_timeout(rt, DROWSY as u32, time);
-        self.state.load(Ordering::SeqCst) == DROWSY
+        let is_woken = gate.sleep(place, time);
+        if is_woken.is_none() {
+            self.state.park_timeout(rt, DROWSY as u32, time);
+        }
+        is_woken != Some(true) && self.state.load(Ordering::SeqCst) == DROWSY
     }
 
-    /// Wakes the worker, if it sleeps or is drowsy.
-    fn ring(&self) {
-        if self.state.load(Ordering::SeqCst) == DROWSY
-            && self.state.swap(AWAKE, Ordering::SeqCst) == DROWSY
-        {
+    /// Wakes the worker, if it sleeps or is drowsy. Returns whether it was.
+    fn ring(&self) -> bool {
+        let is_drowsy = self.state.load(Ordering::SeqCst) == DROWSY
+            && self.state.swap(AWAKE, Ordering::SeqCst) == DROWSY;
+        if is_drowsy {
             self.state.wake_one();
         }
+        is_drowsy
     }
 }
 
@@ -54,7 +59,8 @@ pub struct Bells {
     customers: usize,
     /// The number of lanes.
     lanes: usize,
-    /// The indices of the workers beside each customer port, each lane, and each local port of each bridge.
+    /// The indices of the workers beside each customer port, each lane, and each local port of each bridge. Beside a
+    /// local port the first is the one to which the bridge sends there.
     beside: Vec<[usize; 2]>,
 }
 
@@ -110,7 +116,7 @@ impl Bells {
             let at = self.row(Place::Bridge(link.a.bridge), link.a.port);
             self.set_beside(at, away, back);
             let at = self.row(Place::Bridge(link.b.bridge), link.b.port);
-            self.set_beside(at, away, back);
+            self.set_beside(at, back, away);
         }
     }
 
@@ -149,32 +155,76 @@ impl Bells {
 
     /// Sleeps until a place's bell rings, at most this long, if its worker is drowsy. Makes it drowsy if it is awake.
     /// Returns whether it slept and no bell rang.
-    pub(crate) fn doze<R: Wait>(&self, rt: &R, place: Place, time: Duration) -> bool {
+    pub(crate) fn doze<R: Wait, G: Gate>(
+        &self,
+        rt: &R,
+        gate: &G,
+        place: Place,
+        time: Duration,
+    ) -> bool {
         match self.bells.get(self.worker(place)) {
-            Some(bell) => bell.doze(rt, time),
+            Some(bell) => bell.doze(rt, gate, place, time),
             None => false,
         }
     }
 
-    /// Wakes the workers beside a customer port, a lane, or a local port of a bridge.
-    pub(crate) fn ring_beside(&self, place: Place, port: u8) {
+    /// Wakes the worker of this index, also if it sleeps in the gate. Only those of customer ports do. Returns whether
+    /// it slept or was drowsy.
+    fn wake<G: Gate>(&self, gate: &G, worker: usize) -> bool {
+        let Some(bell) = self.bells.get(worker) else {
+            return false;
+        };
+        let has_slept = bell.ring();
+        if has_slept && worker < self.customers {
+            if let Ok(number) = u8::try_from(worker.wrapping_add(1)) {
+                gate.rouse(Place::Customer(number));
+            }
+        }
+        has_slept
+    }
+
+    /// Wakes the workers of the customer ports and lanes to which the bridge with the worker of this index sends.
+    fn wake_behind<G: Gate>(&self, gate: &G, bridge: usize) {
+        let places = self.customers.wrapping_add(self.lanes);
+        let Some(index) = bridge.checked_sub(places) else {
+            return;
+        };
+        let first = places.wrapping_add(index.wrapping_mul(PORTS));
+        for row in first..first.wrapping_add(PORTS) {
+            if let Some([worker, _]) = self.beside.get(row) {
+                self.wake(gate, *worker);
+            }
+        }
+    }
+
+    /// Wakes the workers beside a customer port, a lane, or a local port of a bridge. With a bridge that slept it wakes
+    /// the places behind it, so that they are awake when the bridge has a frame for them.
+    pub(crate) fn ring_beside<G: Gate>(&self, gate: &G, place: Place, port: u8) {
         if let Some(workers) = self.beside.get(self.row(place, port)) {
             for worker in workers {
-                if let Some(bell) = self.bells.get(*worker) {
-                    bell.ring();
+                if self.wake(gate, *worker) {
+                    self.wake_behind(gate, *worker);
                 }
             }
         }
     }
 
-    /// Wakes the worker of a place, if the plan has it and it sleeps. If it is about to sleep, it takes one more turn.
+    /// Wakes all workers that sleep, also those that sleep in the gate.
+    pub(crate) fn wake_all<G: Gate>(&self, gate: &G) {
+        for worker in 0..self.bells.len() {
+            self.wake(gate, worker);
+        }
+    }
+
+    /// Wakes the worker of a place, if the plan has it and it sleeps on its bell. If it is about to sleep, it takes one
+    /// more turn.
     pub fn ring(&self, place: Place) {
         if let Some(bell) = self.bells.get(self.worker(place)) {
             bell.ring();
         }
     }
 
-    /// Wakes all workers that sleep.
+    /// Wakes all workers that sleep on their bells.
     pub fn ring_all(&self) {
         for bell in self.bells.as_slice() {
             bell.ring();

@@ -1,8 +1,9 @@
 //! The gate that each worker passes before a turn, and the wishes that it hands on.
 
 use crate::bells::Bells;
-use crate::view::PortView;
+use crate::view::{PortView, StationView};
 use pb_lan::{Place, Reason};
+use std::time::Duration;
 
 /// The decision of a gate.
 #[derive(Clone, Copy, PartialEq, Eq, Debug)]
@@ -61,8 +62,8 @@ pub trait Gate: Sync {
         None
     }
 
-    /// Checks whether something rings the bell of a place when its devices have octets or room. The worker of such a
-    /// place sleeps for 50 milliseconds at most.
+    /// Checks whether the worker of a place wakes when its devices have octets or room. The worker of such a place
+    /// sleeps for 50 milliseconds at most.
     fn is_watched(&self, _place: Place) -> bool {
         false
     }
@@ -81,18 +82,38 @@ pub trait Gate: Sync {
     /// Receives the role and the state of a local port of a place: of each port before the place's first turn, and
     /// after each turn that may have changed one.
     fn shows(&self, _place: Place, _port: u8, _view: PortView) {}
+
+    /// Sleeps until devices of a customer port have octets or room or the port is roused, at most this long. Returns
+    /// whether one of these came, or `None` at once if the gate does not watch the devices. The port's worker then
+    /// sleeps on its bell.
+    fn sleep(&self, _place: Place, _time: Duration) -> Option<bool> {
+        None
+    }
+
+    /// Ends the sleep of a customer port's worker in [`Gate::sleep`], or its next one if it is awake.
+    fn rouse(&self, _place: Place) {}
+
+    /// Checks whether the stations of a place are wanted. The worker of the place asks before each of its turns, and
+    /// shows them if they are. A question is returned once.
+    fn asks_stations(&self, _place: Place) -> bool {
+        false
+    }
+
+    /// Receives the stations that a place has learnt and not forgotten, each once, in the order in which they were last
+    /// seen, oldest first. Receives `None` if an allocation for the list failed, or the place learns no stations.
+    fn shows_stations(&self, _place: Place, _stations: Option<Vec<StationView>>) {}
 }
 
 /// Wakes all workers that sleep on the bells of a gate.
 pub(crate) fn ring_all<G: Gate>(gate: &G) {
     if let Some(bells) = gate.bells() {
-        bells.ring_all();
+        bells.wake_all(gate);
     }
 }
 
 /// Wakes the workers beside a customer port, a lane, or a local port of a bridge.
 pub(crate) fn ring_beside<G: Gate>(gate: &G, place: Place, port: u8) {
     if let Some(bells) = gate.bells() {
-        bells.ring_beside(place, port);
+        bells.ring_beside(gate, place, port);
     }
 }

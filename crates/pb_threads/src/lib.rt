@@ -8,6 +8,7 @@
 mod bells;
 mod gate;
 mod share;
+mod showing;
 mod threads;
 mod ticks;
 mod turns;
@@ -19,4 +20,4 @@ pub use gate::{Dropped, Gate, Go, Wish};
 pub use threads::{Places, WorkFault, Worked, run_all};
 pub use ticks::Moment;
 pub use turns::{Finish, Turn, TurnStatus, Work};
-pub use view::PortView;
+pub use view::{PortView, StationView};

@@ -1,22 +1,21 @@
 //! The turns of a worker, whatever its place.
 
-ghost use Rattle.std.specs.Prelude.{◌≡◌, ℕ, None};
+ghost use Rattle.std.specs.Prelude.{◌≡◌, ℕ, List, [], None, IfSome};
 ghost use Rattle.std.specs.declared.option.Option.{Option};
 ghost use Rattle.pb_threads.specs.declared.view.PortView.{PortView};
+ghost use Rattle.pb_threads.specs.declared.view.StationView.{StationView};
 ghost use Rattle.pb_threads.specs.Started.{IsBack};
 
 use crate::gate::{Dropped, Gate, Go, Wish, ring_beside};
 use crate::share::Share;
+use crate::showing::{show_ports, show_stations};
 use crate::ticks::{Moment, Ticks};
-use crate::view::PortView;
+use crate::view::{PortView, StationView};
 use crate::words::Words;
 use pb_lan::{Limits, Place};
 use std::sync::Wait;
 use std::thread;
 use std::time::{Clock, Duration};
-
-/// The number of local ports of a place.
-const PORTS: u8 = 16;
 
 /// The status of a turn.
 #[derive(Clone, Copy, PartialEq, Eq, Debug)]
@@ -88,12 +87,23 @@ pub trait Work: Drop {
     /// The view of a local port. A place that shows no port leaves it out.
     ghost shown_of: { Self → ℕ → Option PortView } = { λ _ _. None };
 
+    /// The stations that the place has learnt and not forgotten. A place that learns none leaves it out.
+    ghost stations_of: { Self → List StationView } = { λ _. [] };
+
     /// Returns the place's kind and number.
     fn place(&self) -> Place;
 
     /// Returns the view of the local port of this number, 1 to 16, if the place shows one.
     fn shown(&self, port: u8) -> Option<PortView>
         ensures { result ≡ shown_of self.now port };
+
+    /// Returns the stations that the place has learnt and not forgotten, in the order in which they were last seen,
+    /// oldest first. `None` if an allocation failed or the place learns no stations.
+    fn stations(&self) -> Option<Vec<StationView>>
+        ensures { IfSome result (λ list. list.items ≡ stations_of self.now) }
+    {
+        None
+    }
 
     /// Checks whether something that rings the place's bell, or its clock, has to come before there is something to do:
     /// a step of a place beside this one or, if the place `is_watched`, its devices.
@@ -211,7 +221,7 @@ fn rest<T: Work, G: Gate, R: Wait + Clock>(
         Some(bells) if millis > 0 => {
             pace.is_drowsy = true;
             pace.done = 0;
-            if bells.doze(rt, owned.place(), Duration::from_millis(millis)) {
+            if bells.doze(rt, gate, owned.place(), Duration::from_millis(millis)) {
                 pace.next = turn.saturating_add(millis.saturating_mul(TURNS));
             }
         }
@@ -250,7 +260,7 @@ fn own_end(status: TurnStatus) -> Option<Finish> {
     }
 }
 
-/// Takes a turn, or fulfils a wish in its place.
+/// Shows the stations of the place if the gate asks for them. Then takes a turn, or fulfils a wish in its place.
 fn take_turn<T: Work, G: Gate, R: Clock>(
     rt: &R,
     owned: &mut T,
@@ -262,22 +272,13 @@ fn take_turn<T: Work, G: Gate, R: Clock>(
     ensures given { T.given owned.new ≡ T.given owned.old }
     ensures fits { T.fits owned.new }
 {
+    show_stations(owned, gate, place);
     match gate.wish(place, ticks.last().now) {
         Some(wish) => owned.fulfil(wish),
         None => {
             let mut moment = ticks.next(rt);
             moment.is_open = moment.is_open && gate.is_open();
             owned.turn(moment)
-        }
-    }
-}
-
-/// Shows the gate the view of each local port of a place.
-fn show_ports<T: Work, G: Gate>(owned: &T, gate: &G, place: Place) {
-    for index in 0..PORTS {
-        let port = index + 1;
-        if let Some(view) = owned.shown(port) {
-            gate.shows(place, port, view);
         }
     }
 }

@@ -1,5 +1,6 @@
-//! The view of a bridge's port while the bridge works.
+//! The views of a bridge's ports and of its stations while the bridge works.
 
+use pb_frame::Mac;
 use pb_lan::PortState;
 use pb_rstp::Role;
 
@@ -10,4 +11,17 @@ pub struct PortView {
     pub role: Option<Role>,
     /// The port's state.
     pub state: PortState,
+}
+
+/// A station that a bridge has learnt and not forgotten.
+#[derive(Clone, Copy, PartialEq, Eq, Debug)]
+pub struct StationView {
+    /// The service in which the station was seen: the VID of its S-VLAN.
+    pub vid: u16,
+    /// The station's address.
+    pub address: Mac,
+    /// The bridge's local port at which the station was last seen, 1 to 16.
+    pub port: u8,
+    /// The number of ticks since the station was last seen, fewer than the plan's ageing time.
+    pub age: u64,
 }

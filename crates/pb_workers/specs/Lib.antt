@@ -1,5 +1,6 @@
 pub mod Ports
 pub mod Bridges
+pub mod Stations
 pub mod Workers
 pub mod Lossless
 pub mod Drained

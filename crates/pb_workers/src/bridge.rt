@@ -15,22 +15,21 @@ ghost use Rattle.pb_lan.specs.Records.{received, transmitted};
 ghost use Rattle.pb_relay.specs.Changes.{HasSet};
 ghost use Rattle.pb_relay.specs.Standing.{at_start};
 ghost use Rattle.pb_ring.specs.Rings.{shown_at};
-ghost use Rattle.pb_workers.specs.Bridges.{AreUsed, view_of};
+ghost use Rattle.pb_workers.specs.Bridges.{AreUsed};
 ghost use Rattle.pb_workers.specs.Lossless.{refuses_when_full, HasRoomBeside};
 
 use crate::access::Access;
-use crate::gift::BridgeGift;
 use crate::lane::LaneWorker;
 use crate::mode::Mode;
+use crate::receipt::received;
 use crate::refusal::{Refusal, Taken, turn};
 use crate::room::{has_room_beside, queue_of, take_in};
 use crate::used::used_ports;
-use crate::view::view_of;
 use pb_frame::{Memory, index_of};
-use pb_lan::{Outcome, Place, Plan};
+use pb_lan::Plan;
 use pb_relay::{Bridge, BridgeFault};
 use pb_ring::{Inlets, Outlets, Wiring};
-use pb_threads::{Dropped, Finish, Moment, PortView, Turn, TurnStatus, Wish, Work};
+use pb_threads::{Finish, Turn, TurnStatus, Wish};
 use std::alloc::Global;
 
 /// A bridge of a plan with the rings at its local ports. It receives by one ring of a port and sends by the other. The
@@ -57,6 +56,7 @@ pub struct BridgeWorker<W: Wiring> {
     pub(crate) waits: bool,
     /// The most items that wait at each port of the bridge.
     pub(crate) queue: u16,
+    pub(crate) alloc: Global,
     pub ghost used: { AreUsed bridge.plan bridge.number (vec_len ins.ends) ports.items },
     pub ghost sides: { vec_len outs.ends ≡ vec_len ins.ends },
     pub ghost took: { (q : ℕ) → shown_at (λ i. received_over i.end) ins.ends.items q ≡ received (q + 1) bridge.steps },
@@ -92,70 +92,6 @@ fn new_bridge(alloc: Global, plan: &Plan, number: u8, keeps: bool) -> Result<Bri
         Bridge::new(alloc, plan, number)
     } else {
         Bridge::counting(alloc, plan, number)
-    }
-}
-
-/// The copies of a frame: how many were queued, how many were lost because a queue was full, and what became of a frame
-/// for which no port was chosen.
-struct Copies {
-    queued: u64,
-    refused: u64,
-    dropped: Option<Dropped>,
-}
-
-/// Returns the copies of a received frame with this outcome.
-fn copies_of(outcome: &Outcome) -> Copies {
-    match outcome {
-        Outcome::Relayed { chosen, refused } => {
-            let (chosen, refused) = (chosen.list(), refused.list());
-            let (chosen, refused) = (chosen.as_slice().len(), refused.as_slice().len());
-            Copies {
-                queued: chosen.saturating_sub(refused) as u64,
-                refused: refused as u64,
-                dropped: if chosen == 0 {
-                    Some(Dropped::Nowhere)
-                } else {
-                    None
-                },
-            }
-        }
-        Outcome::Filtered(reason) => Copies {
-            queued: 0,
-            refused: 0,
-            dropped: Some(Dropped::By(*reason)),
-        },
-        Outcome::Heard => Copies {
-            queued: 0,
-            refused: 0,
-            dropped: None,
-        },
-    }
-}
-
-/// Returns the turn in which a frame with this outcome was received. A marked frame is finished at this bridge, and its
-/// queued copies are new.
-fn received(is_marked: bool, outcome: &Outcome) -> Turn {
-    let Copies {
-        queued,
-        refused,
-        dropped,
-    } = copies_of(outcome);
-    Turn {
-        status: TurnStatus::Done,
-        more: if is_marked { queued } else { 0 },
-        fewer: u64::from(is_marked),
-        refused,
-        dropped,
-        port: 0,
-        has_stirred: matches!(outcome, Outcome::Heard),
-    }
-}
-
-/// Returns the turn, marked as one after which roles and states of ports may have changed.
-fn stirred(turn: Turn) -> Turn {
-    Turn {
-        has_stirred: true,
-        ..turn
     }
 }
 
@@ -198,6 +134,7 @@ impl<W: Wiring> BridgeWorker<W> {
             sets: mode.sets,
             waits: mode.waits,
             queue: queue_of(plan, number),
+            alloc,
         })
     }
 
@@ -256,7 +193,7 @@ impl<W: Wiring> BridgeWorker<W> {
     /// # Errors
     ///
     /// `Memory` if an allocation failed, `Limit` if the bridge has taken as many steps as it may.
-    fn tick(&mut self) -> Taken
+    pub(crate) fn tick(&mut self) -> Taken
         ensures { KeepsRings self.old self.new }
     {
         self.bridge.tick()?;
@@ -270,7 +207,7 @@ impl<W: Wiring> BridgeWorker<W> {
     ///
     /// `Memory` if an allocation failed, `Limit` if the bridge has taken as many steps as it may. The bridge is
     /// unchanged then.
-    fn set(&mut self, wish: Wish) -> Taken
+    pub(crate) fn set(&mut self, wish: Wish) -> Taken
         ensures whether { IfOk result (λ has_set. has_set
             ≡ (self.old.sets && is_provider (port_at self.old.bridge.plan self.old.bridge.number wish.port))) }
         ensures done { IfOk result (λ has_set. has_set ≡ true
@@ -300,7 +237,7 @@ impl<W: Wiring> BridgeWorker<W> {
     }
 
     /// Serves the first port with something to do, beginning after the port that was served last.
-    fn look(&mut self) -> Turn
+    pub(crate) fn look(&mut self) -> Turn
         ensures { IsSameBridge self.old self.new }
     {
         let count = self.ports.len();
@@ -364,52 +301,5 @@ impl<W: Wiring> BridgeWorker<W> {
         ensures rings { (lane.new.to.number ≡ lane.old.to.number) × (lane.new.from ≡ lane.old.from) }
     {
         self.ins.meet(index_of(port), &mut lane.to);
-    }
-}
-
-impl<W: Wiring> Work for BridgeWorker<W> {
-    type Given = BridgeGift;
-
-    ghost given = { λ w. record {
-      worker = w.number;
-      bridge = w.bridge.number;
-      plan = w.bridge.plan;
-      ins = map (λ i. i.number) w.ins.ends.items;
-      outs = map (λ o. o.number) w.outs.ends.items;
-    } };
-
-    ghost fits = { λ w. Unit {0} };
-
-    ghost shown_of = { λ w port. view_of w.bridge port };
-
-    fn place(&self) -> Place {
-        Place::Bridge(self.number)
-    }
-
-    fn turn(&mut self, moment: Moment) -> Turn {
-        if !moment.is_tick {
-            return self.look();
-        }
-        let ticked = self.tick();
-        if ticked.is_err() {
-            return turn(ticked, 0, 0);
-        }
-        let looked = self.look();
-        if looked.status == TurnStatus::Idle {
-            return stirred(turn(ticked, 0, 0));
-        }
-        stirred(looked)
-    }
-
-    fn fulfil(&mut self, wish: Wish) -> Turn {
-        stirred(turn(self.set(wish), 0, 0))
-    }
-
-    fn shown(&self, port: u8) -> Option<PortView> {
-        view_of(&self.bridge, port)
-    }
-
-    fn close(&mut self, _moment: Moment, finish: Finish) {
-        self.finish = Some(finish);
     }
 }

@@ -8,13 +8,16 @@
 
 mod access;
 mod bridge;
+mod bridge_turns;
 mod customer;
 mod drained;
 mod gift;
 mod lane;
 mod mode;
+mod receipt;
 mod refusal;
 mod room;
+mod stations;
 mod used;
 mod view;
 
@@ -26,5 +29,5 @@ pub use gift::{AccessGift, BridgeGift, CustomerGift, LaneGift};
 pub use lane::LaneWorker;
 pub use mode::Mode;
 pub use pb_frame::Memory;
-pub use pb_threads::{PortView, Wish};
+pub use pb_threads::{PortView, StationView, Wish};
 pub use used::is_used;

@@ -139,3 +139,76 @@ fn a_watched_place_wakes_when_its_bell_rings(rt: HostRuntime) -> Result<(), Fail
     }
     Ok(())
 }
+
+/// The number of times that a sleeper looks whether it was roused.
+const LOOKS: u32 = 10_000_000;
+
+/// A gate in which the worker of the first customer port sleeps until it is roused.
+#[derive(Drop)]
+struct Bedroom {
+    bells: Bells,
+    /// How many times the port was roused.
+    rouses: AtomicU64,
+    /// How many times its worker went to sleep and was not roused.
+    overslept: AtomicU64,
+}
+
+impl Gate for Bedroom {
+    fn pass(&self, _place: Place, _turn: u64) -> Go {
+        Go::Go
+    }
+
+    fn lets_sleep(&self, _place: Place) -> bool {
+        true
+    }
+
+    fn bells(&self) -> Option<&Bells> {
+        Some(&self.bells)
+    }
+
+    fn is_watched(&self, place: Place) -> bool {
+        place == Place::Customer(1)
+    }
+
+    fn sleep(&self, place: Place, _time: Duration) -> Option<bool> {
+        if place != Place::Customer(1) {
+            return None;
+        }
+        for _ in 0..LOOKS {
+            if self.rouses.load(Ordering::SeqCst) > 0 {
+                return Some(true);
+            }
+            thread::yield_now();
+        }
+        self.overslept.fetch_add(1, Ordering::SeqCst);
+        Some(false)
+    }
+
+    fn rouse(&self, place: Place) {
+        if place == Place::Customer(1) {
+            self.rouses.fetch_add(1, Ordering::SeqCst);
+        }
+    }
+}
+
+/// Checks that a worker that sleeps in the gate is roused, at the latest when nothing is left to do.
+#[test]
+fn a_worker_that_sleeps_in_the_gate_is_roused(rt: HostRuntime) -> Result<(), Fail> {
+    let gate = Bedroom {
+        bells: Bells::new(rt.alloc(), &plan(rt.alloc())?)?,
+        rouses: AtomicU64::new(0),
+        overslept: AtomicU64::new(0),
+    };
+    let mut places = office(rt.alloc(), 0)?;
+    if let Some(desk) = places.bridges.last_mut() {
+        desk.jobs = 100_000;
+    }
+    let limits = limits_of(1_000_000_000, 0);
+    let Worked { places, verdict } = run_all(&rt, rt.alloc(), places, &gate, limits, 100_000);
+    assert!(rt; verdict.is_ok());
+    assert!(rt; gate.overslept.load(Ordering::SeqCst) == 0);
+    for desk in together(places)? {
+        assert!(rt; desk.finish == Some(Finish::Told));
+    }
+    Ok(())
+}

@@ -46,7 +46,7 @@ queue_copies-refused-requires-clause-hops c =
     omega (arith, a.unworn)
 
 -- the step may come there, and the invariant holds after it
-whole : (c : goal.Joined-load-3)
+whole : (c : goal.After-append_receive)
     → Fits spanning_tree c.self.inside.plan c.self.inside.number c.self.inside.steps.steps
     (Receive c.args.port c.args.item (Some c.learn-learnt.result)
     (Relayed c.choose-chosen.result c.queue_copies-refused.result) None)
@@ -70,12 +70,12 @@ whole c =
     ≡ filter (is_choice s.ports s.forwarding.states c.args.port c.args.vid c.sought-at.result) local_ports =
     c.choose-chosen.ensures.chosen in
     let r = relayed s c.queue_copies-refused.new.backlog.ports newer.sightings c.args.port c.args.vid c.args.item
-    c.args.load c.learn-learnt.result c.sought-at.result c.choose-chosen.result c.queue_copies-refused.result
+    c.args.load.now c.learn-learnt.result c.sought-at.result c.choose-chosen.result c.queue_copies-refused.result
     c.self.invariant
     (ap (λ (v : BridgeView). ruling spanning_tree v.plan v.number v.steps c.args.port c.args.item) c.self.view_is
     ∙ c.requires.ruling)
     (subst (λ (v : BridgeView). IsLoadedAt v.plan v.number (port_at v.plan v.number c.args.port) c.args.item.wire
-    c.args.load) (sym c.self.view_is) c.requires.load)
+    c.args.load.now) (sym c.self.view_is) c.requires.load)
     learns.0 at chosen (separate_of 0 c.choose-chosen.result c.choose-chosen.ensures.ascending)
     c.queue_copies-refused.ensures.copied c.queue_copies-refused.ensures.count in
     (r.0, r.1, learns.1)

@@ -1,4 +1,5 @@
 use Rattle.std.proofs.Common.{◌-◌, get_or, None, arith, sym, ap, subst, ◌∙◌}
+use Rattle.std.specs.Prelude.{IfOk}
 use Rattle.pb_lan.specs.Ports.{port_at}
 use Rattle.pb_relay.specs.Protocol.{spanning_tree}
 use Rattle.pb_lan.specs.BridgeLists.{ruling, Fits}
@@ -25,8 +26,8 @@ at-local-requires c =
     let l = used_there c.self.inside c.args.port c.self.invariant c.self.view_is c.requires.used in
     omega (arith, l.0, l.1, c.index_of.ensures)
 
-pub new-requires : goal.new-requires
-new-requires c =
+pub new-load-requires : goal.new-load-requires
+new-load-requires c =
     let l = used_there c.self.inside c.args.port c.self.invariant c.self.view_is c.requires.used in
     subst (λ (z : Local). IsLoadable z c.args.item.wire) (sym (rw c.index_of.ensures at c.at-local.ensures))
     (loadable c.self.inside.plan (port_at c.self.inside.plan c.self.inside.number c.args.port)
@@ -39,6 +40,9 @@ new-requires c =
 pub carry-requires-clause-load : goal.carry-requires-clause-load
 carry-requires-clause-load c =
     let l = used_there c.self.inside c.args.port c.self.invariant c.self.view_is c.requires.used in
+    let made = subst (λ r. IfOk r (IsLoad (list_any is_to_customer c.self.inside.ports)
+    (list_any is_to_bridge c.self.inside.ports) c.at-local.result c.args.item.wire)) c.in-Ok.is
+    c.new-load.ensures in
     subst (λ (v : BridgeView). IsLoadedAt v.plan v.number (port_at v.plan v.number c.args.port) c.args.item.wire
     c.in-Ok.load) c.self.view_is
     (loaded c.self.inside.plan c.self.inside.number c.self.inside.ports _ _ _
@@ -46,7 +50,7 @@ carry-requires-clause-load c =
     (kept_here c.self.inside.plan _ _ _ _ c.args.port c.self.invariant.0 l)
     (subst (λ (z : Local). IsLoad (list_any is_to_customer c.self.inside.ports)
     (list_any is_to_bridge c.self.inside.ports) z c.args.item.wire c.in-Ok.load)
-    (rw c.index_of.ensures at c.at-local.ensures) c.in-Ok.ensures))
+    (rw c.index_of.ensures at c.at-local.ensures) made))
 
 pub give_up-requires-clause-fits : goal.give_up-requires-clause-fits
 give_up-requires-clause-fits c =
