@@ -60,7 +60,7 @@ WRONG = [
     "00",
 ]
 NEW_KEYS = ["zz", "aa", "Name", "in", "read", "write", "path", "start", "a b", "é", "queue", "priority", "state"]
-NEW_KEYS += ["listen", "stamp", "stay", "kind", "at", "up"]
+NEW_KEYS += ["listen", "stamp", "stay", "replay", "speed", "kind", "at", "up"]
 PATHS = {"capture": ["read", "write"], "record": ["write"], "replay": ["read"], "socket": ["path"], "listen": ["listen"]}
 
 
@@ -165,6 +165,9 @@ def put_kinds(chance, document):
         table["kind"] = "socket" if kind == "listen" else kind
         for key in PATHS[kind]:
             table[key] = chance.choice(["", "a", "a/b.pcap", "-"])
+        if "read" in PATHS[kind] and chance.random() < 0.3:
+            table["replay"] = "times"
+            generate.sometimes(chance, 0.5, table, "speed", lambda: chance.choice([1, 2, 10, 1000]))
         if "write" in PATHS[kind]:
             generate.sometimes(chance, 0.5, table, "stamp", lambda: chance.choice(["ticks", "time"]))
         if table["kind"] == "socket":

@@ -153,14 +153,14 @@ KEYS = {
         ("kind", word(KINDS), "memory"),
     ],
 }
-READ = ("read", text(), NONE)
+READ = [("read", text(), NONE), ("replay", word(("times",)), None), ("speed", number(1, 1000), None)]
 WRITTEN = [("write", text(), NONE), ("stamp", word(("ticks", "time")), "ticks")]
 STAY = ("stay", (is_truth, lambda _: True), False)
 OF_KIND = {
     "memory": [("in", items(is_text, are_frames), [])],
-    "capture": [READ, *WRITTEN],
+    "capture": [*READ, *WRITTEN],
     "record": WRITTEN,
-    "replay": [READ],
+    "replay": READ,
     "socket": [("path", text(), NONE), STAY],
     "listening": [("listen", text(), NONE), STAY],
 }
@@ -311,6 +311,10 @@ def read_ports(document, plan, used, has_time):
         row["at"] = index_of(plan.bridges, row["bridge"])
         row["of"] = index_of(plan.services, row["service"])
         use(used, row["at"], row["port"])
+        if row.get("replay") and not has_time:
+            raise Fault(f"5 range port[{place}].replay")
+        if row.get("speed") and not row.get("replay"):
+            raise Fault(f"5 range port[{place}].speed")
         if row.get("stamp") == "time" and not has_time:
             raise Fault(f"5 range port[{place}].stamp")
         rows.append(row)

@@ -185,7 +185,9 @@ needs_text =
     ++ codes "# port only reads one, a record port only writes one, and a socket port exchanges frames over a Unix\n"
     ++ codes "# socket. The file to read must exist, and a peer must listen. With listen in place of path the port\n"
     ++ codes "# creates the socket. With stay = true another peer may follow one that has left. A plan has at most 128\n"
-    ++ codes "# customer ports.\n"
+    ++ codes "# customer ports. With replay = \"times\", which needs tick_ms, the frames of a file enter"
+    ++ codes " as far apart as\n"
+    ++ codes "# their times are, divided by speed.\n"
 
 -- a port between capture files, as a comment
 abbrev pub capture_text : ℕ → ℕ → List ℕ

@@ -69,7 +69,8 @@ const KINDS: &str = "\
 # port only reads one, a record port only writes one, and a socket port exchanges frames over a Unix\n\
 # socket. The file to read must exist, and a peer must listen. With listen in place of path the port\n\
 # creates the socket. With stay = true another peer may follow one that has left. A plan has at most 128\n\
-# customer ports.\n";
+# customer ports. With replay = \"times\", which needs tick_ms, the frames of a file enter as far apart as\n\
+# their times are, divided by speed.\n";
 
 /// An event of a run, and an acceptance.
 const FAILURES: &str = "\

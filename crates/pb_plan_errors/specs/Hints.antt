@@ -27,7 +27,8 @@ meant text names = option_map (λ near. codes "did you mean \"" ++ near ++ codes
 abbrev pub kinds_with : List ℕ → Option (List ℕ)
 kinds_with key =
     if same key (codes "in") then Some (codes "\"memory\"")
-    else if same key (codes "read") then Some (codes "\"capture\" or \"replay\"")
+    else if same key (codes "read") || same key (codes "replay") || same key (codes "speed") then
+    Some (codes "\"capture\" or \"replay\"")
     else if same key (codes "write") || same key (codes "stamp") then Some (codes "\"capture\" or \"record\"")
     else if same key (codes "path") then Some (codes "\"socket\" without listen")
     else if same key (codes "listen") || same key (codes "stay") then Some (codes "\"socket\"") else None

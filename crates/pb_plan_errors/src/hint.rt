@@ -55,7 +55,7 @@ fn kinds_with(key: &str) -> Option<&'static str>
 {
     if key == "in" {
         Some("\"memory\"")
-    } else if key == "read" {
+    } else if key == "read" || key == "replay" || key == "speed" {
         Some("\"capture\" or \"replay\"")
     } else if key == "write" || key == "stamp" {
         Some("\"capture\" or \"record\"")

@@ -165,6 +165,14 @@ fn unlist(row: &mut Table, key: &str, text: &str) {
     }
 }
 
+/// Removes a key of a table. The speed of a replay goes with it, unless the key is unknown.
+fn remove_key(row: &mut Table, fault: &PlanFault, key: &str) {
+    row.remove(key);
+    if key == "replay" && !matches!(fault, PlanFault::Unknown(_)) {
+        row.remove("speed");
+    }
+}
+
 /// Repairs a key of a table: it gets a right value if it has no default or is a kind, and is removed otherwise. A name
 /// that nothing has is removed from a list.
 fn repair_key(
@@ -189,9 +197,7 @@ fn repair_key(
     match (fault, value) {
         (_, Some(value)) => set(alloc, row, key, value)?,
         (PlanFault::NoSuch(name), None) => unlist(row, key, name.as_str()),
-        (_, None) => {
-            row.remove(key);
-        }
+        (_, None) => remove_key(row, fault, key),
     }
     Ok(true)
 }

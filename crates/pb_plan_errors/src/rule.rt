@@ -101,7 +101,7 @@ static SERVICE: [Rule; 2] = [
     rule!("vid", INTEGER, "in 1..4094"),
 ];
 
-static PORTS: [Rule; 14] = [
+static PORTS: [Rule; 16] = [
     rule!("name", STRING, NAME),
     rule!("bridge", STRING, NAME),
     rule!("port", INTEGER, PORT),
@@ -111,6 +111,8 @@ static PORTS: [Rule; 14] = [
     rule!("kind", STRING, KIND),
     rule!("in", STRINGS, "an array of pairs of hexadecimal digits"),
     rule!("read", STRING, STRING),
+    rule!("replay", STRING, "\"times\""),
+    rule!("speed", INTEGER, "in 1..1000"),
     rule!("write", STRING, STRING),
     rule!("stamp", STRING, "\"ticks\" or \"time\""),
     rule!("path", STRING, STRING),

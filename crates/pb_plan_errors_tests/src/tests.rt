@@ -53,8 +53,8 @@ const MISTAKES: &[(&str, &str, &str)] = &[
         "vid = 100",
         "\tvid = 5000 # blue",
         "p:21:8: service \"red\": vid 5000 is not in 1..4094
-    \tvid = 5000 # blue
-    \t      ^^^^
+    \\tvid = 5000 # blue
+            ^^^^
 ",
     ),
     (
@@ -158,6 +158,47 @@ hint: bridge \"B1\" has it at line 6
     read = \"in\"
     ^^^^
 hint: read is for kind \"capture\" or \"replay\"
+",
+    ),
+    (
+        "port = 2",
+        "port = 2\nkind = \"replay\"\nread = \"in\"\nreplay = \"yes\"",
+        "p:29:10: port \"C1\": replay \"yes\" is not \"times\"
+    replay = \"yes\"
+             ^^^^^
+",
+    ),
+    (
+        "port = 2",
+        "port = 2\nkind = \"replay\"\nread = \"in\"\nreplay = \"times\"",
+        "p:29:10: port \"C1\": replay \"times\" is not allowed without tick_ms
+    replay = \"times\"
+             ^^^^^^^
+",
+    ),
+    (
+        "port = 2",
+        "port = 2\nkind = \"replay\"\nread = \"in\"\nspeed = 0",
+        "p:29:9: port \"C1\": speed 0 is not in 1..1000
+    speed = 0
+            ^
+",
+    ),
+    (
+        "port = 2",
+        "port = 2\nkind = \"replay\"\nread = \"in\"\nspeed = 10",
+        "p:29:9: port \"C1\": speed 10 is not allowed without replay
+    speed = 10
+            ^^
+",
+    ),
+    (
+        "port = 2",
+        "port = 2\nkind = \"socket\"\npath = \"s\"\nreplay = \"times\"",
+        "p:29:1: port \"C1\": unknown key replay
+    replay = \"times\"
+    ^^^^^^
+hint: replay is for kind \"capture\" or \"replay\"
 ",
     ),
     (

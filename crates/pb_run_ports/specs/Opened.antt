@@ -13,34 +13,39 @@ use Rattle.pb_run_ports.specs.declared.opened.Opened.TheVariants.{Memory as in_m
 use Rattle.pb_run_ports.specs.declared.opened.Opened.TheVariants.{Replay as input_alone, Socket as socket}
 use Rattle.pb_service.specs.declared.port_spec.PortSpec.{PortSpec}
 use Rattle.pb_service.specs.declared.port_spec.Stamp.{Stamp}
+use Rattle.pb_service.specs.declared.port_spec.Pace.{Pace}
 use Rattle.pb_service.specs.declared.port_spec.PortSpec.TheVariants.{Memory, Capture, Record, Replay, Socket}
 
 -- the part of a port that is the same before and after opening: the frames that it lists, the paths that it reads and
--- writes, the time stamp of the records that it writes, and whether its socket stays, each if it has such a thing
+-- writes, the pace at which the frames of the file that it reads enter, the time stamp of the records that it writes,
+-- and whether its socket stays, each if it has such a thing
 pub record Shown : Type 0 where
   pub frames : Option (List (List ℕ))
   pub read : Option (List ℕ)
+  pub pace : Option Pace
   pub write : Option (List ℕ)
   pub stamp : Option Stamp
   pub stays : Option Bool
 
 abbrev pub nothing : Shown
-nothing = record { frames = None; read = None; write = None; stamp = None; stays = None }
+nothing = record { frames = None; read = None; pace = None; write = None; stamp = None; stays = None }
 
 -- this part of a port in the plan file
 abbrev pub asked : PortSpec → Shown
 asked (Memory frames) = record nothing { frames = Some frames }
-asked (Capture read write stamp) = record nothing { read = Some read; write = Some write; stamp = Some stamp }
+asked (Capture read pace write stamp) =
+    record nothing { read = Some read; pace = Some pace; write = Some write; stamp = Some stamp }
 asked (Record write stamp) = record nothing { write = Some write; stamp = Some stamp }
-asked (Replay read) = record nothing { read = Some read }
+asked (Replay read pace) = record nothing { read = Some read; pace = Some pace }
 asked (Socket path listens stays) = record nothing { stays = Some stays }
 
 -- this part of an opened port
 abbrev pub shown : {I O S : Type 0} → Opened I O S → Shown
 shown (in_memory frames) = record nothing { frames = Some frames }
-shown (files input output read write stamp) = record nothing { read = Some read; write = Some write; stamp = Some stamp }
+shown (files input output read pace write stamp) =
+    record nothing { read = Some read; pace = Some pace; write = Some write; stamp = Some stamp }
 shown (output_alone output write stamp) = record nothing { write = Some write; stamp = Some stamp }
-shown (input_alone input read) = record nothing { read = Some read }
+shown (input_alone input read pace) = record nothing { read = Some read; pace = Some pace }
 shown (socket stream stays) = record nothing { stays = Some stays }
 
 -- the frames that enter at a port, if the plan file lists them
@@ -50,9 +55,9 @@ script_in spec = (asked spec).frames
 -- the first operations on a port: its file to read is opened, or its socket is made or connected to
 abbrev pub entering : PortSpec → List Deed
 entering (Memory frames) = []
-entering (Capture read write stamp) = Read read ∷ []
+entering (Capture read pace write stamp) = Read read ∷ []
 entering (Record write stamp) = []
-entering (Replay read) = Read read ∷ []
+entering (Replay read pace) = Read read ∷ []
 entering (Socket path true stays) = Listen path ∷ []
 entering (Socket path false stays) = Connect path ∷ []
 

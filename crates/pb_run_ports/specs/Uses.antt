@@ -31,9 +31,10 @@ use_of user (Some file) = record { file = file; user = user } ∷ []
 -- the uses that a port makes of files
 abbrev pub uses_at : (List ℕ → Option (List ℕ)) → ℕ → PortSpec → List FileUse
 uses_at name place (Memory frames) = []
-uses_at name place (Capture read write stamp) = use_of (Reader place) (name read) ++ use_of (Writer place) (name write)
+uses_at name place (Capture read pace write stamp) =
+    use_of (Reader place) (name read) ++ use_of (Writer place) (name write)
 uses_at name place (Record write stamp) = use_of (Writer place) (name write)
-uses_at name place (Replay read) = use_of (Reader place) (name read)
+uses_at name place (Replay read pace) = use_of (Reader place) (name read)
 uses_at name place (Socket path listens stays) = []
 
 -- the uses that ports make of files, from a place of the plan on

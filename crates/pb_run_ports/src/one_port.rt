@@ -58,11 +58,17 @@ pub(crate) fn open_in<O: Openings>(
     let output = ();
     match spec {
         PortSpec::Memory(frames) => Ok(Opened::Memory(frames)),
-        PortSpec::Capture { read, write, stamp } => match opener.open_read(read.as_str()) {
+        PortSpec::Capture {
+            read,
+            pace,
+            write,
+            stamp,
+        } => match opener.open_read(read.as_str()) {
             Ok(input) => Ok(Opened::Capture {
                 input,
                 output,
                 read,
+                pace,
                 write,
                 stamp,
             }),
@@ -73,8 +79,8 @@ pub(crate) fn open_in<O: Openings>(
             write,
             stamp,
         }),
-        PortSpec::Replay { read } => match opener.open_read(read.as_str()) {
-            Ok(input) => Ok(Opened::Replay { input, read }),
+        PortSpec::Replay { read, pace } => match opener.open_read(read.as_str()) {
+            Ok(input) => Ok(Opened::Replay { input, read, pace }),
             Err(error) => Err(unopened(place, Verb::Read, read, error)),
         },
         PortSpec::Socket {
@@ -107,6 +113,7 @@ pub(crate) fn open_out<O: Openings>(
         Opened::Capture {
             input,
             read,
+            pace,
             write,
             stamp,
             ..
@@ -115,6 +122,7 @@ pub(crate) fn open_out<O: Openings>(
                 input,
                 output,
                 read,
+                pace,
                 write,
                 stamp,
             }),
@@ -128,7 +136,7 @@ pub(crate) fn open_out<O: Openings>(
             }),
             Err(error) => Err(unopened(place, Verb::Write, write, error)),
         },
-        Opened::Replay { input, read } => Ok(Opened::Replay { input, read }),
+        Opened::Replay { input, read, pace } => Ok(Opened::Replay { input, read, pace }),
         Opened::Socket { stream, stays } => Ok(Opened::Socket { stream, stays }),
     }
 }
@@ -152,6 +160,7 @@ pub(crate) fn forget_out<O: Openings>(opener: &mut O, port: Opened<O::Input, O::
         Opened::Replay {
             input: _input,
             read: _read,
+            ..
         } => {}
         Opened::Socket {
             stream: _stream,

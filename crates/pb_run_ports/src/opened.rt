@@ -15,7 +15,7 @@ use crate::openings::Openings;
 use crate::uses::{Clash, find_clash};
 use bytes::Bytes;
 use pb_frame::{Memory, Seq, Text};
-use pb_service::{PortSpec, Stamp};
+use pb_service::{Pace, PortSpec, Stamp};
 use std::alloc::Global;
 
 /// The open files or the open socket of a port.
@@ -31,6 +31,8 @@ pub enum Opened<I, O, S> {
         output: O,
         /// The path of the file that it reads.
         read: Text,
+        /// The pace at which the frames of that file enter.
+        pace: Pace,
         /// The path of the file that it writes.
         write: Text,
         /// The time stamp of the records that it writes.
@@ -51,6 +53,8 @@ pub enum Opened<I, O, S> {
         input: I,
         /// The path of the file that it reads.
         read: Text,
+        /// The pace at which the frames of that file enter.
+        pace: Pace,
     },
     /// The stream of its socket.
     Socket {

@@ -129,7 +129,7 @@ fn put_uses<O: Openings>(
             let user = FileUser::Writer(place);
             put_use(alloc, opener, uses, user, write.as_str())
         }
-        PortSpec::Replay { read } => {
+        PortSpec::Replay { read, .. } => {
             let user = FileUser::Reader(place);
             put_use(alloc, opener, uses, user, read.as_str())
         }

@@ -22,7 +22,8 @@ use Rattle.pb_service.specs.Formats.{link_keys}
 use Rattle.pb_service.specs.Told.{rows_of}
 use Rattle.pb_service.specs.Tables.{IsLinkOf, IsCustomerOf, IsPortSpecOf, IsRead, IsReadPort}
 use Rattle.pb_service.specs.UsedPorts.{is_used, port_of}
-use Rattle.pb_service.specs.Refusals.{Refuses, RefusesStamp, HasTables, RefusesLink, CustomerLacks, link_ports}
+use Rattle.pb_service.specs.Refusals.{Refuses, RefusesStamp, RefusesPace, RefusesFiles, no_clock, vain_speed}
+use Rattle.pb_service.specs.Refusals.{HasTables, RefusesLink, CustomerLacks, link_ports}
 use Rattle.pb_service.specs.Refusals.{customer_ports, names_of, network_limits, used_twice, no_bridge, no_service}
 use Rattle.pb_service.specs.Refusals.{no_listed, doubled, no_time, no_memory}
 use Rattle.pb_service.proofs.Refusing.{Table, passed_on}
@@ -205,19 +206,30 @@ port_passed document row bridges services i c links used r e eb at told el befor
     (port_refused document row i services c used e at (rw (← eb) told) (rw (← el, ← eb) before) h)
 
 -- records with the time of day and without a clock refuses the document
+pace_refused : (document row : Members) (i : ℕ) (e : PlanFault) → slice_get (rows_of document Port) i ≡ Some row
+    → RefusesPace (network_limits document) i row e → Refuses document e
+pace_refused document row i e at (inl m) = rw m (no_memory document)
+pace_refused document row i e at (inr (inl (t, lacks))) = rw t (no_clock document i row at lacks)
+pace_refused document row i e at (inr (inr (t, vain))) = rw t (vain_speed document i row at vain)
+
 stamp_refused : (document row : Members) (i : ℕ) (e : PlanFault) → slice_get (rows_of document Port) i ≡ Some row
     → RefusesStamp (network_limits document) i row e → Refuses document e
 stamp_refused document row i e at (inl m) = rw m (no_memory document)
 stamp_refused document row i e at (inr (t, lacks)) = rw t (no_time document i row at lacks)
 
-pub stamp_passed : {X : Type 0} (document row : Members) (limits : Limits) (i : ℕ) (r : Result X PlanFault)
+files_refused : (document row : Members) (i : ℕ) (e : PlanFault) → slice_get (rows_of document Port) i ≡ Some row
+    → RefusesFiles (network_limits document) i row e → Refuses document e
+files_refused document row i e at (inl h) = pace_refused document row i e at h
+files_refused document row i e at (inr h) = stamp_refused document row i e at h
+
+pub files_passed : {X : Type 0} (document row : Members) (limits : Limits) (i : ℕ) (r : Result X PlanFault)
     (e : PlanFault)
     → limits ≡ network_limits document → slice_get (rows_of document Port) i ≡ Some row
-    → ((y : PlanFault) × (r ≡ Err y) × (y ≡ e)) → RefusesStamp limits i row e
+    → ((y : PlanFault) × (r ≡ Err y) × (y ≡ e)) → RefusesFiles limits i row e
     → IfErr r (Refuses document)
-stamp_passed document row limits i r e el at p h =
+files_passed document row limits i r e el at p h =
     passed_on (Refuses document) r e p
-    (stamp_refused document row i e at (subst (λ (l : Limits). RefusesStamp l i row e) el h))
+    (files_refused document row i e at (subst (λ (l : Limits). RefusesFiles l i row e) el h))
 
 pub specs_whole : (document : Members) (limits : Limits) (specs : List PortSpec) → limits ≡ network_limits document
     → AllZip (IsPortSpecOf limits) (rows_of document Port) specs

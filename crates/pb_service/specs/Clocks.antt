@@ -21,6 +21,10 @@ holds_forever limits = nat_lt 0 limits.hold && (limits.tick_every == 0 && limits
 abbrev pub lacks_time : Limits → List ℕ → Bool
 lacks_time limits stamp = same stamp (codes "time") && limits.tick_ms == 0
 
+-- frames are to enter at the distances of their times, and no clock ticks by time
+abbrev pub lacks_clock : Limits → Bool → Bool
+lacks_clock limits replays = replays && limits.tick_ms == 0
+
 -- ports would be prompt although the plan gives their states
 abbrev pub is_vainly_prompt : Spanning → Bool → Bool
 is_vainly_prompt Fixed prompt = prompt

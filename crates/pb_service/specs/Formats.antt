@@ -4,7 +4,7 @@ use Rattle.pb_frame.specs.Admission.{same}
 use Rattle.toml.specs.Data.{Members, get_member}
 use Rattle.pb_service.specs.declared.section.Section.{Section}
 use Rattle.pb_service.specs.declared.section.Section.TheVariants.{Bridge, Link, Service, Port, Event}
-use Rattle.pb_service.specs.declared.rule.Rule.TheVariants.{Number, BridgePriority, PortPriority, Name, Address, Spanning, Queues, State, PortKind, Stamp, Path, Losses, Names, Frames, Flag, FlagOrAuto}
+use Rattle.pb_service.specs.declared.rule.Rule.TheVariants.{Number, BridgePriority, PortPriority, Name, Address, Spanning, Queues, State, PortKind, Stamp, Replay, Path, Losses, Names, Frames, Flag, FlagOrAuto}
 use Rattle.pb_service.specs.Keys.{KeyRule, with_default, without_default}
 use Rattle.pb_service.specs.Told.{has_key, text_told}
 
@@ -71,9 +71,12 @@ service_keys =
 -- which it connects
 abbrev pub own_keys : List ℕ → Bool → List KeyRule
 own_keys kind listens =
-    if same kind (codes "capture") then without_default (codes "read") Path ∷ without_default (codes "write") Path ∷ with_default (codes "stamp") Stamp ∷ []
+    if same kind (codes "capture") then
+    without_default (codes "read") Path ∷ with_default (codes "replay") Replay ∷ with_default (codes "speed") (Number 1 1000)
+    ∷ without_default (codes "write") Path ∷ with_default (codes "stamp") Stamp ∷ []
     else if same kind (codes "record") then without_default (codes "write") Path ∷ with_default (codes "stamp") Stamp ∷ []
-    else if same kind (codes "replay") then without_default (codes "read") Path ∷ []
+    else if same kind (codes "replay") then
+    without_default (codes "read") Path ∷ with_default (codes "replay") Replay ∷ with_default (codes "speed") (Number 1 1000) ∷ []
     else if same kind (codes "socket") then without_default (if listens then codes "listen" else codes "path") Path ∷ with_default (codes "stay") Flag ∷ []
     else with_default (codes "in") Frames ∷ []
 

@@ -7,9 +7,9 @@ use Rattle.pb_service.specs.declared.port_spec.PortSpec.TheVariants.{Memory, Cap
 
 abbrev pub is_socket : PortSpec → Bool
 is_socket (Memory frames) = false
-is_socket (Capture read write stamp) = false
+is_socket (Capture read pace write stamp) = false
 is_socket (Record write stamp) = false
-is_socket (Replay read) = false
+is_socket (Replay read pace) = false
 is_socket (Socket path listens stays) = true
 
 -- the key says it, or leaves it open and no port is a socket

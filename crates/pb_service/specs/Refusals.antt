@@ -19,9 +19,9 @@ use Rattle.pb_service.specs.Sections.{word_of, most_of, path_at}
 use Rattle.pb_service.specs.Values.{all_items, any_item, is_list, text_in}
 use Rattle.pb_service.specs.Keys.{RefusesRow, SomeOf, first_unknown}
 use Rattle.pb_service.specs.Formats.{top_keys, network_keys, event_keys, keys_of}
-use Rattle.pb_service.specs.Told.{rows_of, names_in, number_from, table_told, spanning_of}
-use Rattle.pb_service.specs.Clocks.{lacks_time, RefusesClocks, RefusesPrompt}
-use Rattle.pb_service.specs.Tables.{number_at, text_at, items_at, is_one_of, doubled_key, limits_told, prompt_told}
+use Rattle.pb_service.specs.Told.{rows_of, has_key, names_in, number_from, table_told, spanning_of}
+use Rattle.pb_service.specs.Clocks.{lacks_time, lacks_clock, RefusesClocks, RefusesPrompt}
+use Rattle.pb_service.specs.Tables.{number_at, text_at, items_at, is_one_of, doubled_key, has_vain_speed, limits_told, prompt_told}
 
 -- there is no value, or it is a table
 abbrev pub is_table : Option Data → Bool
@@ -133,6 +133,12 @@ pub data Refuses : Members → PlanFault → Type 0 where
   no_time : (document : Members) (index : ℕ) (row : Members)
       → slice_get (rows_of document Port) index ≡ Some row → lacks_time (network_limits document) (text_at row (codes "stamp")) ≡ true
       → Refuses document (Range (path_at (Row Port index) (codes "stamp")))
+  no_clock : (document : Members) (index : ℕ) (row : Members)
+      → slice_get (rows_of document Port) index ≡ Some row → lacks_clock (network_limits document) (has_key row (codes "replay")) ≡ true
+      → Refuses document (Range (path_at (Row Port index) (codes "replay")))
+  vain_speed : (document : Members) (index : ℕ) (row : Members)
+      → slice_get (rows_of document Port) index ≡ Some row → has_vain_speed row ≡ true
+      → Refuses document (Range (path_at (Row Port index) (codes "speed")))
   in_event : (document : Members) (index : ℕ) (row : Members) (fault : PlanFault)
       → slice_get (rows_of document Event) index ≡ Some row → RefusesEvent (names_of document Bridge) (ends_told document) index row fault → Refuses document fault
   no_memory : (document : Members) → Refuses document Memory
@@ -176,3 +182,15 @@ CustomerLacks bridges services row fault =
 abbrev pub RefusesStamp : Limits → ℕ → Members → PlanFault → Type 0
 RefusesStamp limits index row fault =
     (fault ≡ Memory) ⊎ ((fault ≡ Range (path_at (Row Port index) (codes "stamp"))) × (lacks_time limits (text_at row (codes "stamp")) ≡ true))
+
+-- frames are to enter by the times of their records and no clock ticks by time, a speed is given without that, or an
+-- allocation failed
+abbrev pub RefusesPace : Limits → ℕ → Members → PlanFault → Type 0
+RefusesPace limits index row fault =
+    (fault ≡ Memory)
+    ⊎ (((fault ≡ Range (path_at (Row Port index) (codes "replay"))) × (lacks_clock limits (has_key row (codes "replay")) ≡ true))
+    ⊎ ((fault ≡ Range (path_at (Row Port index) (codes "speed"))) × (has_vain_speed row ≡ true)))
+
+-- a port has such a pace or such a stamp
+abbrev pub RefusesFiles : Limits → ℕ → Members → PlanFault → Type 0
+RefusesFiles limits index row fault = RefusesPace limits index row fault ⊎ RefusesStamp limits index row fault

@@ -1,5 +1,5 @@
 -- The contents of the tables of a plan file.
-use Rattle.std.specs.Prelude.{◌≡◌, ℕ, codes, Bool, true, false, ◌&&◌, List, [], ◌∷◌, take, Some, None, if◌then◌else◌}
+use Rattle.std.specs.Prelude.{◌≡◌, ℕ, codes, Bool, true, false, not, ◌&&◌, List, [], ◌∷◌, take, Some, None, if◌then◌else◌}
 use Rattle.std.specs.declared.option.Option.{Option}
 use Rattle.std.specs.List.{list_any}
 use Rattle.pb_frame.specs.Admission.{same}
@@ -16,9 +16,11 @@ use Rattle.pb_service.specs.declared.link.EndKeys.{EndKeys}
 use Rattle.pb_service.specs.declared.network.Network.{Network}
 use Rattle.pb_service.specs.declared.port_spec.PortSpec.{PortSpec}
 use Rattle.pb_service.specs.declared.port_spec.Stamp.{Stamp}
+use Rattle.pb_service.specs.declared.port_spec.Pace.{Pace}
+use Rattle.pb_service.specs.declared.port_spec.Pace.TheVariants.{AtOnce, Times}
 use Rattle.pb_service.specs.declared.port_spec.PortSpec.TheVariants.{Memory, Capture, Record, Replay, Socket}
 use Rattle.pb_service.specs.Values.{text_in, all_items}
-use Rattle.pb_service.specs.Clocks.{has_two_clocks, holds_forever, is_vainly_prompt, lacks_time}
+use Rattle.pb_service.specs.Clocks.{has_two_clocks, holds_forever, is_vainly_prompt, lacks_time, lacks_clock}
 use Rattle.pb_service.specs.Keys.{KeyRule, IsAccepted}
 use Rattle.pb_service.specs.Formats.{network_keys, port_keys}
 use Rattle.pb_service.specs.Told.{has_key, number_told, text_told, items_told, stamp_of, state_of, spanning_of, queues_of, flag_told, flag_in, naturals_in, number_from, listed_from}
@@ -172,17 +174,31 @@ abbrev pub IsStampOf : Limits → Members → Stamp → Type 0
 IsStampOf limits row stamp =
     (stamp ≡ stamp_of (text_at row (codes "stamp"))) × (lacks_time limits (text_at row (codes "stamp")) ≡ false)
 
+-- the pace at which the frames of a capture enter
+abbrev pub pace_of : Members → Pace
+pace_of row = if has_key row (codes "replay") then Times (number_at row (codes "speed") 1 1000) else AtOnce
+
+-- the table has a speed for times that no frames enter by
+abbrev pub has_vain_speed : Members → Bool
+has_vain_speed row = has_key row (codes "speed") && not (has_key row (codes "replay"))
+
+-- the pace that a table gives: by the times of records only if a clock ticks by time, and with a speed only by times
+abbrev pub IsPaceOf : Limits → Members → Pace → Type 0
+IsPaceOf limits row pace =
+    (pace ≡ pace_of row) × (lacks_clock limits (has_key row (codes "replay")) ≡ false) × (has_vain_speed row ≡ false)
+
 -- the kind of customer port that a table describes: a port with the key `listen` makes its socket
 abbrev pub IsPortSpecOf : Limits → Members → PortSpec → Type 0
 IsPortSpecOf limits row (Memory frames) =
     (has_kind row (codes "capture") ≡ false) × (has_kind row (codes "record") ≡ false) × (has_kind row (codes "replay") ≡ false)
     × (has_kind row (codes "socket") ≡ false) × AreFrames (items_at row (codes "in")) frames
-IsPortSpecOf limits row (Capture read write stamp) =
-    (has_kind row (codes "capture") ≡ true) × (read ≡ text_at row (codes "read")) × (write ≡ text_at row (codes "write"))
-    × IsStampOf limits row stamp
+IsPortSpecOf limits row (Capture read pace write stamp) =
+    (has_kind row (codes "capture") ≡ true) × (read ≡ text_at row (codes "read")) × IsPaceOf limits row pace
+    × (write ≡ text_at row (codes "write")) × IsStampOf limits row stamp
 IsPortSpecOf limits row (Record write stamp) =
     (has_kind row (codes "record") ≡ true) × (write ≡ text_at row (codes "write")) × IsStampOf limits row stamp
-IsPortSpecOf limits row (Replay read) = (has_kind row (codes "replay") ≡ true) × (read ≡ text_at row (codes "read"))
+IsPortSpecOf limits row (Replay read pace) =
+    (has_kind row (codes "replay") ≡ true) × (read ≡ text_at row (codes "read")) × IsPaceOf limits row pace
 IsPortSpecOf limits row (Socket path listens stays) =
     (has_kind row (codes "socket") ≡ true) × (listens ≡ has_key row (codes "listen"))
     × (path ≡ text_at row (if listens then codes "listen" else codes "path")) × (stays ≡ flag_told (get_member (codes "stay") row))

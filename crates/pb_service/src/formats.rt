@@ -97,8 +97,10 @@ static SERVICE: [Key; 2] = [needed!("name", Rule::Name), needed!("vid", 1..=4094
 static MEMORY: [Key; 8] = port_keys![optional!("in", Rule::Frames)];
 
 /// The keys of a customer port over capture files.
-static CAPTURE: [Key; 10] = port_keys![
+static CAPTURE: [Key; 12] = port_keys![
     needed!("read", Rule::Path),
+    optional!("replay", Rule::Replay),
+    optional!("speed", 1..=1000),
     needed!("write", Rule::Path),
     optional!("stamp", Rule::Stamp),
 ];
@@ -110,7 +112,11 @@ static RECORD: [Key; 9] = port_keys![
 ];
 
 /// The keys of a customer port that only reads a capture file.
-static REPLAY: [Key; 8] = port_keys![needed!("read", Rule::Path)];
+static REPLAY: [Key; 10] = port_keys![
+    needed!("read", Rule::Path),
+    optional!("replay", Rule::Replay),
+    optional!("speed", 1..=1000),
+];
 
 /// The keys of a customer port that connects to a socket.
 static SOCKET: [Key; 9] = port_keys![needed!("path", Rule::Path), optional!("stay", Rule::Flag)];

@@ -28,4 +28,4 @@ pub use document::{PlanFile, read_limits, read_plan, read_plan_file};
 pub use event::PortEvent;
 pub use fault::PlanFault;
 pub use pb_lan::Limits;
-pub use port_spec::{PortSpec, Stamp};
+pub use port_spec::{Pace, PortSpec, Stamp};

@@ -8,12 +8,12 @@ ghost use Rattle.pb_frame.specs.Hex.{IsHex};
 ghost use Rattle.pb_service.specs.Values.{all_items, is_text, is_hex};
 ghost use Rattle.pb_service.specs.Keys.{IsAccepted};
 ghost use Rattle.pb_service.specs.Formats.{port_keys};
-ghost use Rattle.pb_service.specs.Clocks.{lacks_time};
+ghost use Rattle.pb_service.specs.Clocks.{lacks_time, lacks_clock};
 ghost use Rattle.pb_service.specs.Told.{has_key, rows_of};
-ghost use Rattle.pb_service.specs.Tables.{has_kind, AreFrames, IsStampOf, IsPortSpecOf, IsCustomerOf, IsReadPort};
-ghost use Rattle.pb_service.specs.Tables.{text_at};
+ghost use Rattle.pb_service.specs.Tables.{has_kind, AreFrames, IsStampOf, IsPaceOf, IsPortSpecOf, IsCustomerOf};
+ghost use Rattle.pb_service.specs.Tables.{IsReadPort, text_at, has_vain_speed, pace_of};
 ghost use Rattle.pb_service.specs.UsedPorts.{AreUsedOnce};
-ghost use Rattle.pb_service.specs.Refusals.{Refuses, RefusesStamp, HasTables, CustomerLacks};
+ghost use Rattle.pb_service.specs.Refusals.{Refuses, RefusesStamp, RefusesPace, RefusesFiles, HasTables, CustomerLacks};
 ghost use Rattle.pb_service.specs.Refusals.{names_of, network_limits, link_ports, ports_told};
 ghost use Rattle.pb_service.specs.declared.fault.PlanFault.TheVariants.{Memory as memory_fault};
 ghost use Rattle.pb_service.specs.declared.section.Section.TheVariants.{Bridge as bridge_section, Link as link_section};
@@ -24,7 +24,7 @@ use crate::check::{check_row, put};
 use crate::fault::PlanFault;
 use crate::key_fault::KeyFault;
 use crate::link::named;
-use crate::port_spec::{PortSpec, Stamp};
+use crate::port_spec::{Pace, PortSpec, Stamp};
 use crate::row::told;
 use crate::section::{KeyTable, Section};
 use crate::table::{names_of, tables_at};
@@ -88,11 +88,57 @@ fn stamp_in(alloc: Global, limits: Limits, row: &Table, index: usize) -> Result<
     Ok(stamp_of(stamp))
 }
 
+/// Returns whether frames are to enter by the times of their records although no clock ticks by time.
+fn lacks_clock(limits: Limits, replays: bool) -> bool
+    ensures { result ≡ lacks_clock limits replays }
+{
+    replays && limits.tick_ms == 0
+}
+
+/// Returns whether a table has a speed although no frames enter by the times of their records.
+fn has_vain_speed(row: &Table) -> bool
+    ensures { result ≡ has_vain_speed (table_view row.now) }
+{
+    has_key(row, "speed") && !has_key(row, "replay")
+}
+
+/// Returns the pace at which the frames of a capture enter.
+fn pace_of(row: &Table) -> Pace
+    ensures { result ≡ pace_of (table_view row.now) }
+{
+    if has_key(row, "replay") {
+        Pace::Times(number_at(row, "speed", 1, 1000) as u16)
+    } else {
+        Pace::AtOnce
+    }
+}
+
+/// Returns the pace at which the frames of a port's capture enter, from its table.
+///
+/// # Errors
+///
+/// `Range` if frames are to enter by the times of their records and no clock ticks by time, or there is a speed without
+/// that, `Memory` if an allocation failed.
+fn pace_in(alloc: Global, limits: Limits, row: &Table, index: usize) -> Result<Pace, PlanFault>
+    ensures ok { IfOk result (IsPaceOf limits (table_view row.now)) }
+    ensures err { IfErr result (RefusesPace limits index (table_view row.now)) }
+{
+    let key_table = KeyTable::Row(Section::Port, index);
+    if lacks_clock(limits, has_key(row, "replay")) {
+        return Err(told(alloc, key_table, "replay", KeyFault::Range));
+    }
+    if has_vain_speed(row) {
+        return Err(told(alloc, key_table, "speed", KeyFault::Range));
+    }
+    Ok(pace_of(row))
+}
+
 /// Returns the port over two capture files that a table describes.
 ///
 /// # Errors
 ///
-/// `Range` if records are to have the time of day and no clock ticks by time, `Memory` if an allocation failed.
+/// `Range` if its stamp or its pace needs a clock that ticks by time and none does, or there is a speed without a pace
+/// by times, `Memory` if an allocation failed.
 fn capture_of(
     alloc: Global,
     limits: Limits,
@@ -101,12 +147,39 @@ fn capture_of(
 ) -> Result<PortSpec, PlanFault>
     requires { has_kind (table_view row.now) (codes "capture") ≡ true }
     ensures ok { IfOk result (IsPortSpecOf limits (table_view row.now)) }
-    ensures err { IfErr result (RefusesStamp limits index (table_view row.now)) }
+    ensures err { IfErr result (RefusesFiles limits index (table_view row.now)) }
 {
+    let pace = pace_in(alloc, limits, row, index)?;
     let stamp = stamp_in(alloc, limits, row, index)?;
     let read = copy_at(alloc, row, "read")?;
     let write = copy_at(alloc, row, "write")?;
-    Ok(PortSpec::Capture { read, write, stamp })
+    Ok(PortSpec::Capture {
+        read,
+        pace,
+        write,
+        stamp,
+    })
+}
+
+/// Returns the port over a capture file to read that a table describes.
+///
+/// # Errors
+///
+/// `Range` if its pace needs a clock that ticks by time and none does, or there is a speed without a pace by times,
+/// `Memory` if an allocation failed.
+fn replay_of(
+    alloc: Global,
+    limits: Limits,
+    row: &Table,
+    index: usize,
+) -> Result<PortSpec, PlanFault>
+    requires { has_kind (table_view row.now) (codes "replay") ≡ true }
+    ensures ok { IfOk result (IsPortSpecOf limits (table_view row.now)) }
+    ensures err { IfErr result (RefusesPace limits index (table_view row.now)) }
+{
+    let pace = pace_in(alloc, limits, row, index)?;
+    let read = copy_at(alloc, row, "read")?;
+    Ok(PortSpec::Replay { read, pace })
 }
 
 /// Returns the port over a capture file to write that a table describes.
@@ -146,7 +219,8 @@ fn socket_path(alloc: Global, row: &Table, listens: bool) -> Result<Text, PlanFa
 ///
 /// # Errors
 ///
-/// `Range` if records are to have the time of day and no clock ticks by time, `Memory` if an allocation failed.
+/// `Range` if its stamp or its pace needs a clock that ticks by time and none does, or there is a speed without a pace
+/// by times, `Memory` if an allocation failed.
 fn port_spec_of(
     alloc: Global,
     limits: Limits,
@@ -156,7 +230,7 @@ fn port_spec_of(
     requires { IsAccepted (port_keys (text_at (table_view row.now) (codes "kind"))
         (has_key (table_view row.now) (codes "listen"))) (table_view row.now) }
     ensures ok { IfOk result (IsPortSpecOf limits (table_view row.now)) }
-    ensures err { IfErr result (RefusesStamp limits index (table_view row.now)) }
+    ensures err { IfErr result (RefusesFiles limits index (table_view row.now)) }
 {
     let kind = text_at(row, "kind");
     if kind == "capture" {
@@ -166,8 +240,7 @@ fn port_spec_of(
         return record_of(alloc, limits, row, index);
     }
     if kind == "replay" {
-        let read = copy_at(alloc, row, "read")?;
-        return Ok(PortSpec::Replay { read });
+        return replay_of(alloc, limits, row, index);
     }
     if kind == "socket" {
         let listens = has_key(row, "listen");

@@ -16,6 +16,15 @@ pub enum Stamp {
     Time,
 }
 
+/// The pace at which the frames of a capture enter.
+#[derive(Clone, Copy, PartialEq, Eq, Debug)]
+pub enum Pace {
+    /// As fast as the port takes them.
+    AtOnce,
+    /// At the distances of the times of their records, divided by this speed, 1 to 1,000.
+    Times(u16),
+}
+
 /// A kind of customer port, with its frames or paths.
 #[derive(PartialEq, Debug, Drop)]
 pub enum PortSpec {
@@ -25,6 +34,8 @@ pub enum PortSpec {
     Capture {
         /// The path of the file whose frames enter.
         read: Text,
+        /// The pace at which they enter.
+        pace: Pace,
         /// The path of the file for the frames that leave.
         write: Text,
         /// The time stamp that the records of that file have.
@@ -41,6 +52,8 @@ pub enum PortSpec {
     Replay {
         /// The path of the file whose frames enter.
         read: Text,
+        /// The pace at which they enter.
+        pace: Pace,
     },
     /// A stream socket, by its path.
     Socket {

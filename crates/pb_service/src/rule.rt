@@ -23,6 +23,8 @@ pub(crate) enum Rule {
     PortKind,
     /// The time stamps of the records of a capture: `ticks` or `time`.
     Stamp,
+    /// The pace at which the frames of a capture enter: `times`.
+    Replay,
     /// Any text.
     Path,
     /// A list of numbers that rises strictly.

@@ -179,6 +179,13 @@ fn is_stamp(value: &Value) -> bool
     }
 }
 
+/// Returns whether the value is `times`.
+fn is_replay(value: &Value) -> bool
+    ensures { result ≡ is_text (same (codes "times")) (view value.now) }
+{
+    is_same(value, "times")
+}
+
 /// Returns whether each item is an integer.
 fn are_integers(items: &[Value]) -> bool
     ensures { result ≡ all_items (λ e. is_some (as_integer e)) (items_view items.now) }
@@ -302,6 +309,7 @@ pub(crate) fn is_of_kind(rule: Rule, value: &Value) -> bool
         | Rule::State
         | Rule::PortKind
         | Rule::Stamp
+        | Rule::Replay
         | Rule::Path => value.is_str(),
     }
 }
@@ -321,6 +329,7 @@ pub(crate) fn is_allowed(rule: Rule, value: &Value) -> bool
         Rule::State => is_state(value),
         Rule::PortKind => is_port_kind(value),
         Rule::Stamp => is_stamp(value),
+        Rule::Replay => is_replay(value),
         Rule::Path => value.is_str(),
         Rule::Losses => are_losses(value),
         Rule::Names => are_listed(value),

@@ -6,7 +6,7 @@ use super::plans::are_ports;
 use bytes::Bytes;
 use pb_frame::Text;
 use pb_lan::Seq;
-use pb_service::{PlanFault, PortSpec, Stamp, read_plan};
+use pb_service::{Pace, PlanFault, PortSpec, Stamp, read_plan};
 use std::alloc::Global;
 
 /// Returns whether a port with these keys is of this kind.
@@ -30,10 +30,15 @@ fn text(alloc: Global, word: &str) -> Result<Text, PlanFault> {
 }
 
 /// Returns a port over two captures.
-fn capture(alloc: Global, stamp: Stamp) -> Result<PortSpec, PlanFault> {
+fn capture(alloc: Global, pace: Pace, stamp: Stamp) -> Result<PortSpec, PlanFault> {
     let read = text(alloc, "in.pcap")?;
     let write = text(alloc, "out.pcap")?;
-    Ok(PortSpec::Capture { read, write, stamp })
+    Ok(PortSpec::Capture {
+        read,
+        pace,
+        write,
+        stamp,
+    })
 }
 
 /// Returns a port that writes a capture.
@@ -58,11 +63,11 @@ fn is_memory(alloc: Global) -> Result<bool, PlanFault> {
     is_port(alloc, "in = [\"0aFf\", \"\"]", &want)
 }
 
-/// Returns whether the keys of a port over captures are read, with this stamp.
-fn is_capture(alloc: Global, stamp: &str, want: Stamp) -> Result<bool, PlanFault> {
-    let want = capture(alloc, want)?;
+/// Returns whether the keys of a port over captures are read, with these other keys.
+fn is_capture(alloc: Global, keys: &str, pace: Pace, stamp: Stamp) -> Result<bool, PlanFault> {
+    let want = capture(alloc, pace, stamp)?;
     let keys = format!(in alloc;
-        "kind = \"capture\"\nread = \"in.pcap\"\nwrite = \"out.pcap\"\n{stamp}\n[network]\ntick_ms = 10"
+        "kind = \"capture\"\nread = \"in.pcap\"\nwrite = \"out.pcap\"\n{keys}\n[network]\ntick_ms = 10"
     )?;
     is_port(alloc, keys.as_str(), &want)
 }
@@ -76,12 +81,12 @@ fn is_record(alloc: Global, stamp: &str, want: Stamp) -> Result<bool, PlanFault>
     is_port(alloc, keys.as_str(), &want)
 }
 
-/// Returns whether the keys of a port that reads a capture are read.
-fn is_replay(alloc: Global) -> Result<bool, PlanFault> {
-    let want = PortSpec::Replay {
-        read: text(alloc, "in.pcap")?,
-    };
-    is_port(alloc, "kind = \"replay\"\nread = \"in.pcap\"", &want)
+/// Returns whether the keys of a port that reads a capture are read, with these other keys.
+fn is_replay(alloc: Global, keys: &str, pace: Pace) -> Result<bool, PlanFault> {
+    let read = text(alloc, "in.pcap")?;
+    let want = PortSpec::Replay { read, pace };
+    let keys = format!(in alloc; "kind = \"replay\"\nread = \"in.pcap\"\n{keys}")?;
+    is_port(alloc, keys.as_str(), &want)
 }
 
 /// Returns whether the keys of a port over a socket are read.
@@ -94,13 +99,88 @@ fn is_socket(alloc: Global, keys: &str, listens: bool, stays: bool) -> Result<bo
 #[test]
 fn ports_are_of_five_kinds(rt: HostRuntime) -> Result<(), PlanFault> {
     assert!(rt; is_memory(rt.alloc())?);
-    assert!(rt; is_capture(rt.alloc(), "", Stamp::Ticks)?);
-    assert!(rt; is_capture(rt.alloc(), "stamp = \"ticks\"", Stamp::Ticks)?);
-    assert!(rt; is_capture(rt.alloc(), "stamp = \"time\"", Stamp::Time)?);
+    assert!(rt; is_capture(rt.alloc(), "", Pace::AtOnce, Stamp::Ticks)?);
+    assert!(rt; is_capture(rt.alloc(), "stamp = \"ticks\"", Pace::AtOnce, Stamp::Ticks)?);
+    assert!(rt; is_capture(rt.alloc(), "stamp = \"time\"", Pace::AtOnce, Stamp::Time)?);
     assert!(rt; is_record(rt.alloc(), "", Stamp::Ticks)?);
     assert!(rt; is_record(rt.alloc(), "stamp = \"time\"", Stamp::Time)?);
-    assert!(rt; is_replay(rt.alloc())?);
+    assert!(rt; is_replay(rt.alloc(), "", Pace::AtOnce)?);
     Ok(())
+}
+
+#[test]
+fn frames_enter_by_the_times_of_their_records(rt: HostRuntime) -> Result<(), PlanFault> {
+    const TIMES: &str = "replay = \"times\"";
+    const FAST: &str = "replay = \"times\"\nspeed = 1000";
+    const CLOCK: &str = "replay = \"times\"\nspeed = 20\n[network]\ntick_ms = 1";
+    assert!(rt; is_capture(rt.alloc(), TIMES, Pace::Times(1), Stamp::Ticks)?);
+    assert!(rt; is_capture(rt.alloc(), FAST, Pace::Times(1_000), Stamp::Ticks)?);
+    assert!(rt; is_replay(rt.alloc(), CLOCK, Pace::Times(20))?);
+    Ok(())
+}
+
+#[test]
+fn a_replay_needs_a_clock_and_a_speed_a_replay(rt: HostRuntime) -> Result<(), PlanFault> {
+    const CHANGES: &[Change] = &[
+        (
+            "port = 3",
+            "kind = \"replay\"\nread = \"r\"\nreplay = \"times\"\nport = 3",
+            "5 range port[2].replay",
+        ),
+        (
+            "service = \"blue\"",
+            "service = \"blue\"\nkind = \"replay\"\nread = \"r\"\nreplay = \"times\"\n[network]\n\
+            tick_every = 1",
+            "5 range port[2].replay",
+        ),
+        (
+            "service = \"blue\"",
+            "service = \"blue\"\nkind = \"capture\"\nread = \"r\"\nwrite = \"w\"\nreplay = \"times\"\n[network]\n\
+            tick_ms = 1",
+            "0 ok",
+        ),
+        (
+            "port = 3",
+            "kind = \"capture\"\nread = \"r\"\nwrite = \"w\"\nreplay = \"times\"\nstamp = \"time\"\nport = 3",
+            "5 range port[2].replay",
+        ),
+        (
+            "port = 3",
+            "kind = \"replay\"\nread = \"r\"\nreplay = \"time\"\nport = 3",
+            "5 range port[2].replay",
+        ),
+        (
+            "port = 3",
+            "kind = \"replay\"\nread = \"r\"\nreplay = true\nport = 3",
+            "4 kind port[2].replay",
+        ),
+        (
+            "port = 3",
+            "kind = \"replay\"\nread = \"r\"\nspeed = 1\nport = 3",
+            "5 range port[2].speed",
+        ),
+        (
+            "port = 3",
+            "kind = \"replay\"\nread = \"r\"\nspeed = 0\nport = 3",
+            "5 range port[2].speed",
+        ),
+        (
+            "port = 3",
+            "kind = \"replay\"\nread = \"r\"\nreplay = \"times\"\nspeed = 1001\nport = 3",
+            "5 range port[2].speed",
+        ),
+        (
+            "port = 3",
+            "kind = \"record\"\nwrite = \"w\"\nreplay = \"times\"\nport = 3",
+            "6 unknown port[2].replay",
+        ),
+        (
+            "port = 3",
+            "kind = \"socket\"\npath = \"p\"\nspeed = 2\nport = 3",
+            "6 unknown port[2].speed",
+        ),
+    ];
+    all_change(&rt, rt.alloc(), CHANGES)
 }
 
 #[test]

@@ -1,0 +1,3 @@
+pub mod UnreadLemmas
+pub mod HeadLemmas
+pub mod PacingLemmas
