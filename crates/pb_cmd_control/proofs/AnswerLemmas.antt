@@ -4,7 +4,7 @@ use Rattle.std.proofs.Common.{refl, sym, ap, ◌∙◌, arith, append_assoc, app
 use Rattle.std.proofs.Math.Seq.{take-append_seam, drop-append_seam}
 use Rattle.pb_cmd_control.specs.Answers.{IsAnswer, AreAnswers, status_of, status_of_all}
 use Rattle.pb_cmd_control.specs.declared.answer.Verdict.{Verdict}
-use Rattle.pb_cmd_control.specs.declared.answer.Verdict.TheVariants.{Done, NoSuch, Bad}
+use Rattle.pb_cmd_control.specs.declared.answer.Verdict.TheVariants.{Done, NoSuch, Bad, NoAnswer}
 
 -- the index at which the last line of a text begins
 begins_at : (lines line text : List ℕ) → text ≡ lines ++ line → length text - length line ≡ length lines
@@ -37,10 +37,17 @@ pub status_of_all-snoc : (verdicts : List Verdict) (verdict : Verdict)
 status_of_all-snoc [] Done = refl
 status_of_all-snoc [] NoSuch = refl
 status_of_all-snoc [] Bad = refl
+status_of_all-snoc [] NoAnswer = refl
 status_of_all-snoc (Done ∷ verdicts) verdict = status_of_all-snoc verdicts verdict
 status_of_all-snoc (NoSuch ∷ verdicts) Done = refl
 status_of_all-snoc (NoSuch ∷ verdicts) NoSuch = refl
 status_of_all-snoc (NoSuch ∷ verdicts) Bad = refl
+status_of_all-snoc (NoSuch ∷ verdicts) NoAnswer = refl
 status_of_all-snoc (Bad ∷ verdicts) Done = refl
 status_of_all-snoc (Bad ∷ verdicts) NoSuch = refl
 status_of_all-snoc (Bad ∷ verdicts) Bad = refl
+status_of_all-snoc (Bad ∷ verdicts) NoAnswer = refl
+status_of_all-snoc (NoAnswer ∷ verdicts) Done = refl
+status_of_all-snoc (NoAnswer ∷ verdicts) NoSuch = refl
+status_of_all-snoc (NoAnswer ∷ verdicts) Bad = refl
+status_of_all-snoc (NoAnswer ∷ verdicts) NoAnswer = refl

@@ -24,16 +24,18 @@ pub enum Verdict {
     NoSuch,
     /// `bad`: there is no such command.
     Bad,
+    /// `no answer`: the bridge did not give what was asked for.
+    NoAnswer,
 }
 
 impl Verdict {
-    /// Returns the exit status for a command with this result: 0 for `ok`, 4 for `no such` and `bad`.
+    /// Returns the exit status for a command with this result: 0 for `ok`, 4 for `no such`, `bad` and `no answer`.
     pub(crate) fn status(self) -> u8
         ensures { result ≡ status_of self }
     {
         match self {
             Verdict::Done => 0,
-            Verdict::NoSuch | Verdict::Bad => 4,
+            Verdict::NoSuch | Verdict::Bad | Verdict::NoAnswer => 4,
         }
     }
 }
@@ -72,6 +74,9 @@ fn verdict_of(text: &[u8]) -> Option<Verdict>
     }
     if ends_with_line(text, b"bad\n") {
         return Some(Verdict::Bad);
+    }
+    if ends_with_line(text, b"no answer\n") {
+        return Some(Verdict::NoAnswer);
     }
     None
 }

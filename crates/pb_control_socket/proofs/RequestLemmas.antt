@@ -6,9 +6,11 @@ use Rattle.pb_lan.specs.Names.{is_name}
 use Rattle.pb_lan.specs.declared.plan.Plan.{Plan}
 use Rattle.pb_step_script.specs.Lines.{IsBridgePort}
 use Rattle.pb_messages.specs.Words.{cut}
-use Rattle.pb_control_socket.specs.Requests.{way_word, IsColonPort, AsksFor, AsksToSet, Asks, Reads, IsNoWord}
+use Rattle.pb_control_socket.specs.Requests.{way_word, IsColonPort, AsksFor, AsksToSet}
+use Rattle.pb_control_socket.specs.Requests.{AsksForStations, Asks, Reads, IsNoWord}
 use Rattle.pb_control_socket.specs.declared.request.Request.{Request}
-use Rattle.pb_control_socket.specs.declared.request.Request.TheVariants.{Stop, Counts, Tree, Drops, Help, Set, SetPart}
+use Rattle.pb_control_socket.specs.declared.request.Request.TheVariants.{Stop, Counts, Tree, Drops, Stations, Help}
+use Rattle.pb_control_socket.specs.declared.request.Request.TheVariants.{Set, SetPart}
 use Rattle.pb_control_socket.specs.declared.request.Refused.{Refused}
 use Rattle.pb_control_socket.specs.declared.request.Refused.TheVariants.{NoSuch, Bad}
 
@@ -39,6 +41,7 @@ asks_nothing plan words up no_port no_name Stop asks = asks
 asks_nothing plan words up no_port no_name Counts asks = asks
 asks_nothing plan words up no_port no_name Tree asks = asks
 asks_nothing plan words up no_port no_name Drops asks = asks
+asks_nothing plan words up no_port no_name (Stations bridge) asks = asks
 asks_nothing plan words up no_port no_name Help asks = asks
 asks_nothing plan words up no_port no_name (Set bridge port way) asks = no_port bridge port asks.1
 asks_nothing plan words up no_port no_name (SetPart part way) asks =
@@ -65,25 +68,27 @@ set_asks plan line Stop w = absurd w.asks
 set_asks plan line Counts w = absurd w.asks
 set_asks plan line Tree w = absurd w.asks
 set_asks plan line Drops w = absurd w.asks
+set_asks plan line (Stations bridge) w = absurd w.asks
 set_asks plan line Help w = absurd w.asks
 set_asks plan line (Set bridge port up) w = w
 set_asks plan line (SetPart part up) w = w
 
--- a line that is no single argument and sets nothing is no request
+-- a line that is no single argument, sets nothing and asks for no stations is no request
 no_request : (plan : Plan) (line : List ℕ) → IsNoWord line → ((request : Request) → AsksToSet plan line request → ⊥)
-    → (request : Request) → Asks plan line request → ⊥
-no_request plan line no_word no_set Stop asks = no_word.0 asks
-no_request plan line no_word no_set Counts asks = no_word.1 asks
-no_request plan line no_word no_set Tree asks = no_word.2 asks
-no_request plan line no_word no_set Drops asks = no_word.3 asks
-no_request plan line no_word no_set Help asks = no_word.4 asks
-no_request plan line no_word no_set (Set bridge port up) asks = no_set (Set bridge port up) asks
-no_request plan line no_word no_set (SetPart part up) asks = no_set (SetPart part up) asks
+    → ((bridge : ℕ) → AsksForStations plan line bridge → ⊥) → (request : Request) → Asks plan line request → ⊥
+no_request plan line no_word no_set no_stations Stop asks = no_word.0 asks
+no_request plan line no_word no_set no_stations Counts asks = no_word.1 asks
+no_request plan line no_word no_set no_stations Tree asks = no_word.2 asks
+no_request plan line no_word no_set no_stations Drops asks = no_word.3 asks
+no_request plan line no_word no_set no_stations (Stations bridge) asks = no_stations bridge asks
+no_request plan line no_word no_set no_stations Help asks = no_word.4 asks
+no_request plan line no_word no_set no_stations (Set bridge port up) asks = no_set (Set bridge port up) asks
+no_request plan line no_word no_set no_stations (SetPart part up) asks = no_set (SetPart part up) asks
 
 -- what is read of a line that is no single argument
 pub reads_set : (plan : Plan) (line : List ℕ) (r : Result Request Refused) → IsNoWord line
     → (r ≢ Err Bad → Reads plan line r) → (r ≡ Err Bad → (request : Request) → AsksToSet plan line request → ⊥)
-    → Reads plan line r
-reads_set plan line (Ok request) no_word read bad = read (λ e. cc)
-reads_set plan line (Err NoSuch) no_word read bad = read (λ e. cc)
-reads_set plan line (Err Bad) no_word read bad = no_request plan line no_word (bad refl)
+    → (r ≡ Err Bad → (bridge : ℕ) → AsksForStations plan line bridge → ⊥) → Reads plan line r
+reads_set plan line (Ok request) no_word read unset unshown = read (λ e. cc)
+reads_set plan line (Err NoSuch) no_word read unset unshown = read (λ e. cc)
+reads_set plan line (Err Bad) no_word read unset unshown = no_request plan line no_word (unset refl) (unshown refl)

@@ -1,5 +1,5 @@
 -- The request of a line of the control socket.
-use Rattle.std.specs.Prelude.{◌≡◌, ◌≢◌, ◌⊎◌, ℕ, ◌+◌, Bool, true, false, ◌==◌, List, [], ◌∷◌, map, take, drop}
+use Rattle.std.specs.Prelude.{◌≡◌, ◌≢◌, ◌⊎◌, ℕ, ◌+◌, Bool, true, false, ◌==◌, not, List, [], ◌∷◌, map, take, drop}
 use Rattle.std.specs.Prelude.{Option, Some, Result, Ok, Err, codes}
 use Rattle.std.specs.List.{position}
 use Rattle.std.specs.Option.{option_map}
@@ -12,7 +12,7 @@ use Rattle.pb_step_script.specs.Named.{bridge_named}
 use Rattle.pb_messages.specs.Words.{cut, port_of, local_port}
 use Rattle.pb_control_socket.specs.Parts.{part_named, is_part, ends_of_part}
 use Rattle.pb_control_socket.specs.declared.request.Request.{Request}
-use Rattle.pb_control_socket.specs.declared.request.Request.TheVariants.{Stop, Counts, Tree, Drops, Help, Set, SetPart}
+use Rattle.pb_control_socket.specs.declared.request.Request.TheVariants.{Stop, Counts, Tree, Drops, Stations, Help, Set, SetPart}
 use Rattle.pb_control_socket.specs.declared.request.Refused.{Refused}
 use Rattle.pb_control_socket.specs.declared.request.Refused.TheVariants.{NoSuch, Bad}
 
@@ -41,6 +41,7 @@ AsksFor plan words up Stop = ⊥
 AsksFor plan words up Counts = ⊥
 AsksFor plan words up Tree = ⊥
 AsksFor plan words up Drops = ⊥
+AsksFor plan words up (Stations bridge) = ⊥
 AsksFor plan words up Help = ⊥
 AsksFor plan words up (Set bridge port way) =
     (way ≡ up) × (IsBridgePort plan words bridge port ⊎ IsColonPort plan words bridge port)
@@ -53,12 +54,20 @@ pub record AsksToSet (plan : Plan) (line : List ℕ) (request : Request) : Type 
   pub parts : cut line ≡ Some (way_word up, words)
   pub asks : AsksFor plan words up request
 
+-- the line is `stations` and the name of a bridge, whose number is 0 if the plan has none of this name
+pub record AsksForStations (plan : Plan) (line : List ℕ) (bridge : ℕ) : Type 0 where
+  pub name : List ℕ
+  pub parts : cut line ≡ Some (codes "stations", name)
+  pub is_named : is_name name ≡ true
+  pub bridge_is : bridge ≡ bridge_named plan name
+
 -- the request of the line. A bridge, a port or a part that the plan lacks has the number 0, which names nothing
 abbrev pub Asks : Plan → List ℕ → Request → Type 0
 Asks plan line Stop = line ≡ codes "stop"
 Asks plan line Counts = line ≡ codes "counts"
 Asks plan line Tree = line ≡ codes "tree"
 Asks plan line Drops = line ≡ codes "drops"
+Asks plan line (Stations bridge) = AsksForStations plan line bridge
 Asks plan line Help = line ≡ codes "help"
 Asks plan line (Set bridge port up) = AsksToSet plan line (Set bridge port up)
 Asks plan line (SetPart part up) = AsksToSet plan line (SetPart part up)
@@ -68,12 +77,13 @@ abbrev pub IsNoWord : List ℕ → Type 0
 IsNoWord line = (line ≢ codes "stop") × (line ≢ codes "counts") × (line ≢ codes "tree") × (line ≢ codes "drops")
     × (line ≢ codes "help")
 
--- the port to be set leads to another bridge; the name of the part means one
+-- the port to be set leads to another bridge; the name of the part or of the bridge means one
 abbrev pub is_there : Plan → Request → Bool
 is_there plan Stop = true
 is_there plan Counts = true
 is_there plan Tree = true
 is_there plan Drops = true
+is_there plan (Stations bridge) = not (bridge == 0)
 is_there plan Help = true
 is_there plan (Set bridge port up) = is_provider (port_at plan bridge port)
 is_there plan (SetPart part up) = is_part part
@@ -94,6 +104,7 @@ changes plan Stop = Stop ∷ []
 changes plan Counts = []
 changes plan Tree = []
 changes plan Drops = []
+changes plan (Stations bridge) = []
 changes plan Help = []
 changes plan (Set bridge port up) = Set bridge port up ∷ []
 changes plan (SetPart part up) = map (set_end up) (ends_of_part plan part)

@@ -1,12 +1,14 @@
 //! The part of a run that its control socket reads and sets.
 
-ghost use Rattle.std.specs.Prelude.{ℕ, List};
+ghost use Rattle.std.specs.Option.{option_map};
+ghost use Rattle.std.specs.Prelude.{ℕ, Bool, List};
 ghost use Rattle.std.specs.declared.option.Option.{Option};
 ghost use Rattle.pb_control_socket.specs.declared.request.Request.{Request};
 ghost use Rattle.pb_control_socket.specs.declared.request.Request.TheVariants.{Stop as stops, Set as sets};
 ghost use Rattle.pb_threads.specs.declared.view.PortView.{PortView};
+ghost use Rattle.pb_threads.specs.declared.view.StationView.{StationView};
 
-use pb_threads::PortView;
+use pb_threads::{PortView, StationView};
 
 /// The part of a run that its control socket reads and sets while the run goes on. Workers and the socket share it, and
 /// no call waits.
@@ -31,6 +33,12 @@ pub trait Board {
 
     /// These counts of dropped frames were returned for the bridge of this number.
     ghost told_drops: { Self → ℕ → List ℕ → Type 0 } = { λ _ _ _. Unit {0} };
+
+    /// This was returned for the customer port of this number: whether its peer is there, if peers come and go.
+    ghost told_peer: { Self → ℕ → Option Bool → Type 0 } = { λ _ _ _. Unit {0} };
+
+    /// These stations were returned for the bridge of this number, or that it gave none.
+    ghost told_stations: { Self → ℕ → Option (List StationView) → Type 0 } = { λ _ _ _. Unit {0} };
 
     /// Ends the run.
     fn stop(&self)
@@ -59,4 +67,21 @@ pub trait Board {
     /// to port 16. [`drop_word`](pb_messages::drop_word) has the word for each count of a port by its number, 0 to 9.
     fn drops(&self, bridge: u8) -> [u64; 160]
         ensures { told_drops self.now bridge result };
+
+    /// Returns whether the customer port (from 1) has a peer. `None` for a port that is over no socket, or that does
+    /// not stay when its peer leaves.
+    fn peer(&self, port: u8) -> Option<bool>
+        ensures { told_peer self.now port result };
+
+    /// Asks the bridge (from 1) for its stations.
+    fn ask_stations(&self, bridge: u8);
+
+    /// Checks whether there is a result for [`stations`](Board::stations): the bridge (from 1) has given its stations
+    /// after the newest question, or has had time enough.
+    fn has_stations(&self, bridge: u8) -> bool;
+
+    /// Returns the stations that the bridge (from 1) has learnt and not forgotten, by VID and address. `None` if it has
+    /// not given them, or an allocation failed.
+    fn stations(&self, bridge: u8) -> Option<Vec<StationView>>
+        ensures { told_stations self.now bridge (option_map (λ list. list.items) result) };
 }

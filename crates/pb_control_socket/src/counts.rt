@@ -5,6 +5,7 @@ ghost use Rattle.pb_control_socket.specs.Sizes.{IsFew};
 ghost use Rattle.pb_control_socket.specs.Texts.{port_line, bridge_line, AreLines, AreLinesByName, IsCountsText};
 
 use crate::board::Board;
+use crate::peers::put_all_peers;
 use pb_frame::Memory;
 use pb_lan::Plan;
 use pb_step_script::{bridges_by_name, ports_by_name};
@@ -106,7 +107,7 @@ fn put_all_bridges<B: Board>(
     put_bridges(board, bridges.as_slice(), out)
 }
 
-/// Appends the counts of all customer ports and of all bridges.
+/// Appends the counts of all customer ports and of all bridges, and the peers of the customer ports.
 ///
 /// # Errors
 ///
@@ -119,8 +120,9 @@ pub(crate) fn put_counts<B: Board>(
 ) -> Result<(), Memory>
     requires { IsFew plan.now }
     ensures { OnOk result ((text : List ℕ) × (string_bytes out.new ≡ string_bytes out.old ++ text)
-        × IsCountsText plan.now (B.told_port board.now) (B.told_bridge board.now) text) }
+        × IsCountsText plan.now (B.told_port board.now) (B.told_bridge board.now) (B.told_peer board.now) text) }
 {
     put_all_ports(alloc, plan, board, out)?;
-    put_all_bridges(alloc, plan, board, out)
+    put_all_bridges(alloc, plan, board, out)?;
+    put_all_peers(alloc, plan, board, out)
 }

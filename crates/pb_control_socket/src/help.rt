@@ -7,13 +7,14 @@ use pb_frame::Memory;
 
 /// A line for each request.
 const HELP: &str = "\
-stop       end the run and print its report\n\
-counts     frames that entered, left and found a full queue\n\
-tree       role and state of each port between bridges\n\
-drops      frames that were dropped, by bridge, port and reason\n\
-down NAME  disable a link, a bridge or a port BRIDGE:PORT\n\
-up NAME    enable it again\n\
-help       print these lines\n\
+stop             end the run and print its report\n\
+counts           frames that entered, left and found a full queue; peers\n\
+tree             role and state of each port between bridges\n\
+drops            frames that were dropped, by bridge, port and reason\n\
+stations BRIDGE  stations that a bridge has learnt, with port and age\n\
+down NAME        disable a link, a bridge or a port BRIDGE:PORT\n\
+up NAME          enable it again\n\
+help             print these lines\n\
 ";
 
 /// Appends a line for each request.

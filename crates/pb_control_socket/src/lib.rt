@@ -9,15 +9,18 @@ mod board;
 mod control;
 mod counts;
 mod drops;
+mod endings;
 mod help;
 mod lines;
 mod parts;
 mod path;
 mod peer;
+mod peers;
 mod places;
 mod reading;
 mod replies;
 mod request;
+mod stations;
 mod tree;
 
 pub use board::Board;

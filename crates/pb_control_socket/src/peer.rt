@@ -8,7 +8,9 @@ ghost use Rattle.pb_control_socket.specs.declared.request.Request.{Request};
 
 use crate::board::Board;
 use crate::lines::LineBuffer;
+use crate::reading::read_request;
 use crate::replies::answer;
+use crate::request::Request;
 use pb_frame::Memory;
 use pb_lan::Plan;
 use std::alloc::Global;
@@ -41,6 +43,16 @@ fn progress_of(error: &Error) -> Progress {
     }
 }
 
+/// Returns the bridge of the plan whose stations a line asks for, if it does.
+fn asked_bridge(plan: &Plan, line: &[u8]) -> Option<u8>
+    requires { IsFew plan.now }
+{
+    match read_request(plan, line) {
+        Ok(Request::Stations { bridge }) => Some(bridge),
+        _ => None,
+    }
+}
+
 /// A peer, the lines that it has sent, and the reply that it is to get.
 ///
 /// One reply at a time is held. While it waits no line is taken, and while a line waits nothing is read.
@@ -48,6 +60,8 @@ fn progress_of(error: &Error) -> Progress {
 pub(crate) struct Peer<S> {
     stream: S,
     lines: LineBuffer,
+    /// The line whose reply waits for the board.
+    held: Option<Vec<u8>>,
     answer: String,
     sent: usize,
     ghost within: { sent ≤ string_len answer },
@@ -59,6 +73,7 @@ impl<S: Read + Write> Peer<S> {
         Peer {
             stream,
             lines: LineBuffer::new(alloc, LONGEST),
+            held: None,
             answer: String::new(alloc),
             sent: 0,
         }
@@ -103,7 +118,39 @@ impl<S: Read + Write> Peer<S> {
         }
     }
 
-    /// Takes one step: writes the reply if some of it remains, else performs the next line if there is one, else reads.
+    /// Performs a line, or holds it if its reply waits for the board.
+    fn begin<B: Board>(&mut self, alloc: Global, plan: &Plan, board: &B, line: Vec<u8>) -> Progress
+        requires few { IsFew plan.now }
+        requires allowed { (request : Request) → is_there plan.now request ≡ true
+            → All (B.allows board.now) (changes plan.now request) }
+    {
+        match asked_bridge(plan, line.as_slice()) {
+            Some(bridge) => {
+                board.ask_stations(bridge);
+                self.held = Some(line);
+                Progress::Moved
+            }
+            None => self.answer(alloc, plan, board, line.as_slice()),
+        }
+    }
+
+    /// Performs the line that waits for the board, if the wait is over.
+    fn go_on<B: Board>(&mut self, alloc: Global, plan: &Plan, board: &B, line: Vec<u8>) -> Progress
+        requires few { IsFew plan.now }
+        requires allowed { (request : Request) → is_there plan.now request ≡ true
+            → All (B.allows board.now) (changes plan.now request) }
+    {
+        if let Some(bridge) = asked_bridge(plan, line.as_slice()) {
+            if !board.has_stations(bridge) {
+                self.held = Some(line);
+                return Progress::Idle;
+            }
+        }
+        self.answer(alloc, plan, board, line.as_slice())
+    }
+
+    /// Takes one step: writes the reply if some of it remains, else performs the line that waits for the board, if
+    /// there is one, else the next line, else reads.
     pub(crate) fn step<B: Board>(&mut self, alloc: Global, plan: &Plan, board: &B) -> Progress
         requires few { IsFew plan.now }
         requires allowed { (request : Request) → is_there plan.now request ≡ true
@@ -112,8 +159,11 @@ impl<S: Read + Write> Peer<S> {
         if self.sent < self.answer.len() {
             return self.write_on();
         }
+        if let Some(line) = self.held.take() {
+            return self.go_on(alloc, plan, board, line);
+        }
         match self.lines.next_line() {
-            Ok(Some(line)) => self.answer(alloc, plan, board, line.as_slice()),
+            Ok(Some(line)) => self.begin(alloc, plan, board, line),
             Ok(None) => self.read_on(),
             Err(Memory) => Progress::Gone,
         }

@@ -6,14 +6,17 @@ ghost use Rattle.pb_control_socket.specs.Sizes.{IsFew};
 ghost use Rattle.pb_lan.specs.Names.{is_name};
 ghost use Rattle.pb_lan.specs.declared.plan.Plan.{Plan};
 ghost use Rattle.pb_step_script.specs.Lines.{IsBridgePort};
-ghost use Rattle.pb_control_socket.specs.Requests.{way_word, colon_cut, IsColonPort, AsksFor, AsksToSet, Reads};
-ghost use Rattle.pb_control_socket.specs.Requests.{is_there, IsNoWord};
+ghost use Rattle.pb_control_socket.specs.Requests.{way_word, colon_cut, IsColonPort, AsksFor, AsksToSet};
+ghost use Rattle.pb_control_socket.specs.Requests.{Asks, AsksForStations, IsNoWord, Reads, is_there};
 ghost use Rattle.pb_control_socket.specs.declared.request.Request.{Request};
 
 use crate::places::{bridge_named, is_part, leads_on, part_named};
 use crate::request::{Refused, Request};
 use pb_lan::{Plan, is_name};
 use pb_messages::{cut, local_port, read_port};
+
+/// The first argument of a line that asks for stations.
+const STATIONS: &[u8] = b"stations";
 
 /// Returns the bridge and its local port from the arguments `BRIDGE PORT`. Each is 0 if the plan or the bridge lacks
 /// it. `None` if the arguments do not read so.
@@ -127,6 +130,36 @@ fn read_setting(plan: &Plan, line: &[u8]) -> Option<Request>
     read_change(plan, words, up)
 }
 
+/// Returns the number of the bridge that a line `stations BRIDGE` names, or 0 if the plan has none of this name. `None`
+/// if the line does not read so.
+fn read_stations(plan: &Plan, line: &[u8]) -> Option<u8>
+    requires { IsFew plan.now }
+    ensures some { IfSome result (λ bridge. AsksForStations plan.now line.now bridge) }
+    ensures none { IfNone result ((bridge : ℕ) → AsksForStations plan.now line.now bridge → ⊥) }
+{
+    let (word, name) = cut(line)?;
+    if word != STATIONS || !is_name(name) {
+        return None;
+    }
+    Some(bridge_named(plan, name))
+}
+
+/// Returns the request of a line that begins with `up`, `down` or `stations`.
+fn read_named(plan: &Plan, line: &[u8]) -> Option<Request>
+    requires { IsFew plan.now }
+    ensures some { IfSome result (λ request. Asks plan.now line.now request) }
+    ensures unset { IfNone result ((request : Request) → AsksToSet plan.now line.now request → ⊥) }
+    ensures unshown { IfNone result ((bridge : ℕ) → AsksForStations plan.now line.now bridge → ⊥) }
+{
+    match read_setting(plan, line) {
+        Some(request) => Some(request),
+        None => {
+            let bridge = read_stations(plan, line)?;
+            Some(Request::Stations { bridge })
+        }
+    }
+}
+
 /// Returns the request that is a single argument: `stop`, `counts`, `tree`, `drops` or `help`.
 fn read_word(line: &[u8]) -> Option<Request>
     ensures some { IfSome result (λ request. (plan : Plan) → Reads plan line.now (Ok request)) }
@@ -142,12 +175,13 @@ fn read_word(line: &[u8]) -> Option<Request>
     }
 }
 
-/// Checks whether the port or the part of a request exists.
+/// Checks whether the port, the part or the bridge of a request exists.
 fn is_there(plan: &Plan, request: Request) -> bool
     ensures { result ≡ is_there plan.now request }
 {
     match request {
         Request::Stop | Request::Counts | Request::Tree | Request::Drops | Request::Help => true,
+        Request::Stations { bridge } => bridge != 0,
         Request::Set { bridge, port, .. } => leads_on(plan, bridge, port),
         Request::SetPart { part, .. } => is_part(part),
     }
@@ -157,13 +191,14 @@ fn is_there(plan: &Plan, request: Request) -> bool
 ///
 /// # Errors
 ///
-/// `NoSuch` if the plan lacks the port or the part that the line names. `Bad` if the line does not read so.
+/// `NoSuch` if the plan lacks the port, the part or the bridge that the line names. `Bad` if the line does not read so.
 fn read_set(plan: &Plan, line: &[u8]) -> Result<Request, Refused>
     requires { IsFew plan.now }
     ensures read { result ≢ Err Refused.Bad → Reads plan.now line.now result }
-    ensures bad { result ≡ Err Refused.Bad → (request : Request) → AsksToSet plan.now line.now request → ⊥ }
+    ensures unset { result ≡ Err Refused.Bad → (request : Request) → AsksToSet plan.now line.now request → ⊥ }
+    ensures unshown { result ≡ Err Refused.Bad → (bridge : ℕ) → AsksForStations plan.now line.now bridge → ⊥ }
 {
-    let Some(request) = read_setting(plan, line) else {
+    let Some(request) = read_named(plan, line) else {
         return Err(Refused::Bad);
     };
     if is_there(plan, request) {
@@ -173,8 +208,8 @@ fn read_set(plan: &Plan, line: &[u8]) -> Result<Request, Refused>
     }
 }
 
-/// Reads the request of a line: one of `stop`, `counts`, `tree`, `drops`, `help`, `up NAME` and `down NAME`, without
-/// its LF. One space is between two arguments.
+/// Reads the request of a line: one of `stop`, `counts`, `tree`, `drops`, `stations BRIDGE`, `help`, `up NAME` and
+/// `down NAME`, without its LF. One space is between two arguments. BRIDGE is the name of a bridge.
 ///
 /// NAME is the name of a link, for both of its ends; or of a bridge, for both ends of each of its links, which may be
 /// none; or a port to another bridge as `BRIDGE:PORT` or `BRIDGE PORT`, for that end alone. A name has 1 to 32 letters,
@@ -183,9 +218,9 @@ fn read_set(plan: &Plan, line: &[u8]) -> Result<Request, Refused>
 ///
 /// # Errors
 ///
-/// `NoSuch` if a line reads so but the plan has no link and no bridge of the name, or has both, or the bridge's port
-/// leads to no other bridge. `Bad` if the line does not read so. A carriage return is part of no argument, and makes
-/// the line `Bad`.
+/// `NoSuch` if a line reads so but the plan has no link and no bridge of the name, or has both, the bridge's port leads
+/// to no other bridge, or BRIDGE names none. `Bad` if the line does not read so. A carriage return is part of no
+/// argument, and makes the line `Bad`.
 pub fn read_request(plan: &Plan, line: &[u8]) -> Result<Request, Refused>
     requires { IsFew plan.now }
     ensures { Reads plan.now line.now result }

@@ -16,12 +16,18 @@ pub enum Part {
 pub enum Request {
     /// `stop`: end the run.
     Stop,
-    /// `counts`: the frames that entered and left at the customer ports, and those that bridges refused.
+    /// `counts`: the frames that entered and left at the customer ports, those that bridges refused, and the peers of
+    /// ports that stay.
     Counts,
     /// `tree`: the roles and states of the ports between bridges.
     Tree,
     /// `drops`: the frames that bridges dropped, by local port and reason.
     Drops,
+    /// `stations BRIDGE`: the stations that a bridge has learnt.
+    Stations {
+        /// The number of the bridge, from 1.
+        bridge: u8,
+    },
     /// `help`: the requests.
     Help,
     /// `up BRIDGE PORT`, `down BRIDGE PORT`, or the same with `BRIDGE:PORT`: enable or disable a port to another

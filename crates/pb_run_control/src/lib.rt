@@ -7,7 +7,11 @@
 #![tactic(auto)]
 
 mod agenda;
+mod board;
+mod census;
+mod course;
 mod mailbox;
+mod peers;
 mod progress;
 mod steering;
 mod traffic;

@@ -3,20 +3,20 @@
 ghost use Rattle.std.specs.Prelude.{◌≤◌, length};
 ghost use Rattle.pb_lan.specs.Plans.{IsSound};
 
-use crate::agenda::Agenda;
-use crate::mailbox::Mailbox;
+use crate::course::{Course, courses_of};
+use crate::peers::Peers;
 use crate::progress::{Opening, PeerChange, RunProgress};
 use crate::traffic::Traffic;
-use crate::views::Views;
-use pb_control_socket::{Board, Control};
+use pb_control_socket::Control;
 use pb_frame::Memory;
 use pb_lan::{Place, Plan};
-use pb_service::PortEvent;
-use pb_threads::{Bells, Dropped, Gate, Go, PortView, Wish};
+use pb_service::{PortEvent, PortSpec};
+use pb_threads::{Bells, Dropped, Gate, Go, PortView, StationView, Wish};
 use std::alloc::Global;
 use std::fs::Files;
 use std::sync::Mutex;
 use std::sync::atomic::{AtomicU64, Ordering};
+use std::time::Duration;
 
 /// The number of turns of the first bridge's worker between two turns of the control socket.
 const LOOK: u64 = 16;
@@ -24,77 +24,30 @@ const LOOK: u64 = 16;
 /// The number of ticks of each bridge after which frames enter even if the bridges have not converged.
 const PATIENCE: u64 = 200;
 
-/// The planned events, the wishes and the views of one bridge.
-#[derive(Drop)]
-struct Course {
-    agenda: Agenda,
-    mailbox: Mailbox,
-    views: Views,
-}
-
 /// The gate that steers a run. It hands bridges the wishes that are due, serves the control socket, counts, has the
 /// bells that wake workers, and otherwise passes calls to the gate inside.
 #[derive(Drop)]
 pub struct Steering<'a, G> {
     gate: &'a G,
     plan: &'a Plan,
-    traffic: &'a Traffic,
+    pub(crate) traffic: &'a Traffic,
     /// The course of each bridge, in the order of the plan.
     courses: Vec<Course>,
     /// The bells of the workers.
-    bells: Bells,
-    /// For each customer port 1 if it is watched.
-    watched: Vec<AtomicU64>,
+    pub(crate) bells: Bells,
+    /// The peers of the customer ports.
+    pub(crate) peers: Peers,
     /// The control socket, while there is one.
     control: Mutex<Option<Control>>,
     /// 1 once the run is to end.
-    stop: AtomicU64,
+    pub(crate) stop: AtomicU64,
+    /// The second of the clock at the newest turn of the control socket.
+    pub(crate) now: AtomicU64,
     /// 1 once frames may enter.
     open: AtomicU64,
     ghost few_bridges: { length plan.now.bridges ≤ 32 },
     ghost few_links: { length plan.now.links ≤ 64 },
     ghost few_customers: { length plan.now.customers ≤ 128 },
-}
-
-/// Returns the course of the bridge of this number, from 1.
-///
-/// # Errors
-///
-/// `Memory` if an allocation failed.
-fn course_of(alloc: Global, events: &[PortEvent], bridge: u8) -> Result<Course, Memory> {
-    Ok(Course {
-        agenda: Agenda::of(alloc, events, bridge)?,
-        mailbox: Mailbox::new(alloc)?,
-        views: Views::new(alloc)?,
-    })
-}
-
-/// Returns the course of each bridge of a plan.
-///
-/// # Errors
-///
-/// `Memory` if an allocation failed.
-fn courses_of(alloc: Global, plan: &Plan, events: Vec<PortEvent>) -> Result<Vec<Course>, Memory> {
-    let mut events = events;
-    events.sort_by_key(|event| event.at)?;
-    let mut courses = Vec::new(alloc);
-    for place in 0..plan.bridges.len().min(32) {
-        courses.push(course_of(alloc, events.as_slice(), place as u8 + 1)?)?;
-    }
-    Ok(courses)
-}
-
-/// Returns a list of this many zeros.
-///
-/// # Errors
-///
-/// `Memory` if an allocation failed.
-fn zeros(alloc: Global, count: usize) -> Result<Vec<AtomicU64>, Memory> {
-    let mut zeros = Vec::new(alloc);
-    for _ in 0..count {
-        zeros.push(AtomicU64::new(0))?;
-    }
-    Ok(zeros)
 }
 
 impl<'a, G> Steering<'a, G> {
@@ -123,19 +76,27 @@ impl<'a, G> Steering<'a, G> {
             traffic,
             courses,
             bells: Bells::new(alloc, plan)?,
-            watched: zeros(alloc, plan.customers.len())?,
+            peers: Peers::new(alloc, plan.customers.len())?,
             control: Mutex::new(None),
             stop: AtomicU64::new(0),
+            now: AtomicU64::new(0),
             open: AtomicU64::new(if waits { 0 } else { 1 }),
         })
     }
 
-    /// Checks whether the customer port of this number, from 1, is watched.
-    fn is_port_watched(&self, port: u8) -> bool {
-        match self.watched.get(usize::from(port).wrapping_sub(1)) {
-            Some(word) => word.load(Ordering::SeqCst) != 0,
-            None => false,
+    /// Notes which customer ports stay when their peer leaves, by the specs of all ports in the order of the plan. None
+    /// of them has a peer yet. The reply to `counts` names the peers of these ports alone.
+    pub fn expect_peers(&self, specs: &[PortSpec]) {
+        for (index, spec) in specs.iter().enumerate() {
+            if let PortSpec::Socket { stays: true, .. } = spec {
+                self.peers.expect(index);
+            }
         }
+    }
+
+    /// Returns the course of the bridge of this number, from 1, if there is one.
+    pub(crate) fn course(&self, bridge: u8) -> Option<&Course> {
+        self.courses.get(usize::from(bridge).wrapping_sub(1))
     }
 
     /// Returns how many events have not come.
@@ -147,23 +108,9 @@ impl<'a, G> Steering<'a, G> {
         left
     }
 
-    /// Returns the bells that wake the workers of the run. The bell of a watched customer port is to be rung when its
-    /// devices have octets or room.
-    pub fn bells(&self) -> &Bells {
-        &self.bells
-    }
-
     /// Wakes the worker of the first bridge, which takes a turn of the control socket.
-    pub fn ring_first(&self) {
+    fn ring_first(&self) {
         self.bells.ring(Place::Bridge(1));
-    }
-
-    /// Notes that the customer port of this number, from 1, is watched: from now on its worker sleeps until its bell
-    /// rings, for 50 milliseconds at most, while its devices have nothing.
-    pub fn watch(&self, port: u8) {
-        if let Some(word) = self.watched.get(usize::from(port).wrapping_sub(1)) {
-            word.store(1, Ordering::SeqCst);
-        }
     }
 
     /// Adds a control socket. Its peers steer the run too.
@@ -185,7 +132,7 @@ impl<'a, G> Steering<'a, G> {
     /// Returns the wish that is due at the bridge of this number, from 1, whose clock has ticked `now` times: that of
     /// the next planned event, else one from the control socket.
     fn due(&self, bridge: u8, now: u32) -> Option<Wish> {
-        let course = self.courses.get(usize::from(bridge).wrapping_sub(1))?;
+        let course = self.course(bridge)?;
         match course.agenda.take(now) {
             Some(wish) => Some(wish),
             None => course.mailbox.take(),
@@ -242,6 +189,7 @@ impl<'a, G> Steering<'a, G> {
 
     /// Takes a turn of the control socket at this second of the clock, and returns whether the run goes on.
     fn attend(&self, now: u64) -> Go {
+        self.now.store(now, Ordering::SeqCst);
         if let Some(mut held) = self.control.try_lock() {
             if let Some(control) = held.as_mut() {
                 control.make_way(now);
@@ -252,38 +200,6 @@ impl<'a, G> Steering<'a, G> {
             Go::Go
         } else {
             Go::Stop
-        }
-    }
-}
-
-impl<G> Board for Steering<'_, G> {
-    fn stop(&self) {
-        self.stop.store(1, Ordering::SeqCst);
-    }
-
-    fn set(&self, bridge: u8, port: u8, up: bool) {
-        if let Some(course) = self.courses.get(usize::from(bridge).wrapping_sub(1)) {
-            course.mailbox.put(Wish { port, up });
-            self.bells.ring(Place::Bridge(bridge));
-        }
-    }
-
-    fn traffic(&self, port: u8) -> (u64, u64) {
-        self.traffic.at_port(port)
-    }
-
-    fn bridge(&self, bridge: u8) -> (u64, u64) {
-        self.traffic.at_bridge(bridge)
-    }
-
-    fn drops(&self, bridge: u8) -> [u64; 160] {
-        self.traffic.drops(bridge)
-    }
-
-    fn views(&self, bridge: u8) -> [Option<PortView>; 16] {
-        match self.courses.get(usize::from(bridge).wrapping_sub(1)) {
-            Some(course) => course.views.all(),
-            None => [None; 16],
         }
     }
 }
@@ -321,14 +237,18 @@ impl<G: RunProgress> Gate for Steering<'_, G> {
         Some(&self.bells)
     }
 
-    /// Checks whether the bell of a place is rung from outside. The worker of the first bridge serves the control
+    /// Checks whether something from outside may come for a place. The worker of the first bridge serves the control
     /// socket, so that it sleeps no longer than that of a watched port.
     fn is_watched(&self, place: Place) -> bool {
-        match place {
-            Place::Customer(port) => self.is_port_watched(port),
-            Place::Bridge(bridge) => bridge == 1,
-            Place::Lane(_) => false,
-        }
+        place == Place::Bridge(1) || self.gate.is_watched(place)
+    }
+
+    fn sleep(&self, place: Place, time: Duration) -> Option<bool> {
+        self.gate.sleep(place, time)
+    }
+
+    fn rouse(&self, place: Place) {
+        self.gate.rouse(place);
     }
 
     fn is_open(&self) -> bool {
@@ -337,9 +257,29 @@ impl<G: RunProgress> Gate for Steering<'_, G> {
 
     fn shows(&self, place: Place, port: u8, view: PortView) {
         if let Place::Bridge(bridge) = place {
-            if let Some(course) = self.courses.get(usize::from(bridge).wrapping_sub(1)) {
+            if let Some(course) = self.course(bridge) {
                 let (_, ticks) = self.traffic.at_bridge(bridge);
                 course.views.show(port, view, ticks);
+            }
+        }
+    }
+
+    fn asks_stations(&self, place: Place) -> bool {
+        match place {
+            Place::Bridge(bridge) => match self.course(bridge) {
+                Some(course) => course.census.hear(),
+                None => false,
+            },
+            _ => false,
+        }
+    }
+
+    /// Keeps the stations for the control socket, and wakes the worker that serves it.
+    fn shows_stations(&self, place: Place, stations: Option<Vec<StationView>>) {
+        if let Place::Bridge(bridge) = place {
+            if let Some(course) = self.course(bridge) {
+                course.census.give(stations);
+                self.ring_first();
             }
         }
     }
@@ -377,6 +317,11 @@ impl<G: RunProgress> RunProgress for Steering<'_, G> {
     }
 
     fn peer(&self, port: &str, change: PeerChange) {
+        for (index, customer) in self.plan.customers.as_slice().iter().enumerate() {
+            if customer.name.as_str() == port {
+                self.peers.change(index, change);
+            }
+        }
         self.gate.peer(port, change);
     }
 

@@ -3,7 +3,7 @@
 ghost use Rattle.pb_lan.specs.Plans.{IsSound};
 
 use super::board::Fake;
-use super::plans::{COUNTS, DROPS, HELP, TREE, plan};
+use super::plans::{COUNTS, DROPS, HELP, NO_STATIONS, STATIONS, TREE, plan};
 use pb_control_socket::{Part, Refused, Request, answer, read_request};
 use pb_frame::Memory;
 use pb_lan::Plan;
@@ -27,6 +27,13 @@ const ASKING: &[Row] = &[
     ("counts", Ok(Request::Counts)),
     ("tree", Ok(Request::Tree)),
     ("drops", Ok(Request::Drops)),
+    ("stations west", Ok(Request::Stations { bridge: 1 })),
+    ("stations east", Ok(Request::Stations { bridge: 2 })),
+    ("stations north", NO_SUCH),
+    ("stations West", NO_SUCH),
+    ("stations L1", NO_SUCH),
+    ("stations shop", NO_SUCH),
+    ("stations abcdefghijklmnopqrstuvwxyz-_0189", NO_SUCH),
     ("help", Ok(Request::Help)),
     (
         "down west 2",
@@ -118,6 +125,18 @@ const WRONG: &[&str] = &[
     "trees",
     "tree\r",
     "Tree",
+    "station",
+    "station west",
+    "stations",
+    "stations ",
+    "stations  west",
+    "stations west ",
+    "stations west\r",
+    "stations west 1",
+    "stations west:1",
+    "stations w.st",
+    "stations abcdefghijklmnopqrstuvwxyz-_01897",
+    "Stations west",
     "drop",
     "drops west",
     "drops\r",
@@ -172,6 +191,8 @@ fn reply(read: Result<Request, Refused>) -> &'static str {
         Ok(Request::Counts) => COUNTS,
         Ok(Request::Tree) => TREE,
         Ok(Request::Drops) => DROPS,
+        Ok(Request::Stations { bridge: 1 }) => STATIONS,
+        Ok(Request::Stations { .. }) => NO_STATIONS,
         Ok(Request::Help) => HELP,
         Ok(_) => "ok\n",
         Err(Refused::NoSuch) => "no such\n",
@@ -200,6 +221,7 @@ fn has_done(board: &Fake, read: Result<Request, Refused>) -> bool {
     match read {
         Ok(Request::Counts | Request::Tree | Request::Drops | Request::Help) | Err(_) =>
             board.has_done(&[]),
+        Ok(Request::Stations { .. }) => board.has_done(&[]),
         Ok(Request::SetPart { up, .. }) => board.has_done(&ends(up)),
         Ok(request) => board.has_done(&[request]),
     }

@@ -1,24 +1,61 @@
 //! A board that notes its requests.
 
 use pb_control_socket::{Board, Request};
+use pb_frame::Mac;
 use pb_lan::PortState;
 use pb_rstp::Role;
-use pb_threads::PortView;
+use pb_threads::{PortView, StationView};
 use std::alloc::Global;
 use std::cell::RefCell;
+use std::sync::atomic::{AtomicU64, Ordering};
 
-/// A board that notes its requests, and returns counts that identify a port or a bridge.
+/// The stations of the first bridge.
+const STATIONS: &[StationView] = &[
+    StationView {
+        vid: 100,
+        address: Mac([2, 0, 0, 0, 0, 1]),
+        port: 16,
+        age: 0,
+    },
+    StationView {
+        vid: 4094,
+        address: Mac([0xab, 0xcd, 0xef, 0x09, 0x90, 0xff]),
+        port: 1,
+        age: 999_999,
+    },
+];
+
+/// A board that notes its requests, and returns counts that identify a port or a bridge. Its first bridge gives
+/// stations, and its second gives none.
 #[derive(Drop)]
 pub(super) struct Fake {
+    alloc: Global,
     asked: RefCell<Vec<Request>>,
+    /// 1 while the board has no result for those who ask for stations.
+    is_held: AtomicU64,
+    /// The number of questions for stations.
+    questions: AtomicU64,
 }
 
 impl Fake {
     /// Returns a board without requests.
     pub(super) fn new(alloc: Global) -> Fake {
         Fake {
+            alloc,
             asked: RefCell::new(Vec::new(alloc)),
+            is_held: AtomicU64::new(0),
+            questions: AtomicU64::new(0),
         }
+    }
+
+    /// Sets whether results for those who ask for stations are held back.
+    pub(super) fn hold(&self, is_held: bool) {
+        self.is_held.store(u64::from(is_held), Ordering::SeqCst);
+    }
+
+    /// Returns how often stations were asked for.
+    pub(super) fn questions(&self) -> u64 {
+        self.questions.load(Ordering::SeqCst)
     }
 
     /// Checks whether exactly these requests were made, in this order.
@@ -51,6 +88,29 @@ impl Board for Fake {
 
     fn bridge(&self, bridge: u8) -> (u64, u64) {
         (200 + u64::from(bridge), 300 + u64::from(bridge))
+    }
+
+    fn peer(&self, port: u8) -> Option<bool> {
+        match port {
+            1 => Some(true),
+            2 => Some(false),
+            _ => None,
+        }
+    }
+
+    fn ask_stations(&self, _bridge: u8) {
+        self.questions.fetch_add(1, Ordering::SeqCst);
+    }
+
+    fn has_stations(&self, _bridge: u8) -> bool {
+        self.is_held.load(Ordering::SeqCst) == 0
+    }
+
+    fn stations(&self, bridge: u8) -> Option<Vec<StationView>> {
+        if bridge != 1 {
+            return None;
+        }
+        Vec::from_slice(self.alloc, STATIONS).ok()
     }
 
     fn views(&self, bridge: u8) -> [Option<PortView>; 16] {

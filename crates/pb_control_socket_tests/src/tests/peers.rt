@@ -16,6 +16,23 @@ use std::process::{Abort, Process};
 use std::rt::Env;
 use std::test::Fail;
 
+/// The replies to `stations west` and `stop`.
+const ONE_BRIDGE: &str = "\
+station west 100 02-00-00-00-00-01 port 16 age 0\n\
+station west 4094 AB-CD-EF-09-90-FF port 1 age 999999\n\
+ok\n\
+ok\n\
+";
+
+/// The same, and then the reply to `stations east`.
+const BOTH_BRIDGES: &str = "\
+station west 100 02-00-00-00-00-01 port 16 age 0\n\
+station west 4094 AB-CD-EF-09-90-FF port 1 age 999999\n\
+ok\n\
+ok\n\
+no answer\n\
+";
+
 /// A list of actions with peers of its own.
 type Story = &'static [Action];
 
@@ -182,6 +199,48 @@ const STAYS_ALONE: Story = &[
     Action::Says(First, b"stop\n"),
     Action::HaveHeard("ok\n"),
 ];
+
+/// The reply with the stations of a bridge comes once the board has it, and the next line is performed after that.
+const WAITS_FOR_STATIONS: Story = &[
+    Action::Connects(First),
+    Action::Holds(true),
+    Action::Says(First, b"stations west\nstop\n"),
+    Action::HaveHeard(""),
+    Action::Settles,
+    Action::Hears(First, false),
+    Action::HaveHeard(""),
+    Action::IsAsked(&[]),
+    Action::HasQuestions(1),
+    Action::Holds(false),
+    Action::Settles,
+    Action::Hears(First, false),
+    Action::HaveHeard(ONE_BRIDGE),
+    Action::IsAsked(&[Request::Stop]),
+    Action::Says(First, b"stations east\n"),
+    Action::HaveHeard(BOTH_BRIDGES),
+    Action::HasQuestions(2),
+];
+
+/// A peer that disconnects while it waits for stations leaves nothing to the next.
+const LEAVES_BEFORE_THE_STATIONS: Story = &[
+    Action::Connects(First),
+    Action::Holds(true),
+    Action::Says(First, b"stations west\n"),
+    Action::HangsUp(First),
+    Action::Connects(Second),
+    Action::Settles,
+    Action::Holds(false),
+    Action::Settles,
+    Action::Says(Second, b"stop\n"),
+    Action::HaveHeard("ok\n"),
+    Action::HasQuestions(1),
+];
+
+#[test]
+fn stations_are_waited_for(rt: HostRuntime) -> Result<(), Fail> {
+    const STORIES: &[Story] = &[WAITS_FOR_STATIONS, LEAVES_BEFORE_THE_STATIONS];
+    come_to_pass(&rt, rt.alloc(), rt.process(), STORIES)
+}
 
 #[test]
 fn silent_peers_make_way(rt: HostRuntime) -> Result<(), Fail> {

@@ -47,8 +47,20 @@ port office entered 103 left 18446744073709551612\n\
 port shop entered 101 left 18446744073709551614\n\
 bridge east refused 202 ticks 302\n\
 bridge west refused 201 ticks 301\n\
+peer Yard none\n\
+peer shop connected\n\
 ok\n\
 ";
+
+/// The reply to `stations west`.
+pub(super) const STATIONS: &str = "\
+station west 100 02-00-00-00-00-01 port 16 age 0\n\
+station west 4094 AB-CD-EF-09-90-FF port 1 age 999999\n\
+ok\n\
+";
+
+/// The reply to `stations east`.
+pub(super) const NO_STATIONS: &str = "no answer\n";
 
 /// The reply to `tree`.
 pub(super) const TREE: &str = "\
@@ -81,13 +93,14 @@ ok\n\
 
 /// The reply to `help`.
 pub(super) const HELP: &str = "\
-stop       end the run and print its report\n\
-counts     frames that entered, left and found a full queue\n\
-tree       role and state of each port between bridges\n\
-drops      frames that were dropped, by bridge, port and reason\n\
-down NAME  disable a link, a bridge or a port BRIDGE:PORT\n\
-up NAME    enable it again\n\
-help       print these lines\n\
+stop             end the run and print its report\n\
+counts           frames that entered, left and found a full queue; peers\n\
+tree             role and state of each port between bridges\n\
+drops            frames that were dropped, by bridge, port and reason\n\
+stations BRIDGE  stations that a bridge has learnt, with port and age\n\
+down NAME        disable a link, a bridge or a port BRIDGE:PORT\n\
+up NAME          enable it again\n\
+help             print these lines\n\
 ok\n\
 ";
 

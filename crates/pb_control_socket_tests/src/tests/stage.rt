@@ -45,6 +45,10 @@ pub(super) enum Action {
     HangsUp(Who),
     /// All that both peers have heard so far.
     HaveHeard(&'static str),
+    /// The board holds back the results for those who ask for stations, or holds them back no longer.
+    Holds(bool),
+    /// How often the board was asked for stations so far.
+    HasQuestions(u64),
     /// All requests made of the board so far.
     IsAsked(&'static [Request]),
     /// A peer asks for counts this many times. Nothing is read from it while it takes no reply, and no reply is lost.
@@ -93,6 +97,11 @@ impl Stage {
     fn connects(&mut self, rt: &impl Net, who: Who) -> io::Result<bool> {
         *self.peers.of(who) = Some(UnixStream::connect(rt, PATH)?);
         Ok(true)
+    }
+
+    fn holds(&self, is_held: bool) -> bool {
+        self.board.hold(is_held);
+        true
     }
 
     fn hangs_up(&mut self, who: Who) -> bool {
@@ -187,6 +196,8 @@ pub(super) fn happens(
         Action::Hears(who, is_end) => stage.hears(who, is_end),
         Action::HangsUp(who) => Ok(stage.hangs_up(who)),
         Action::HaveHeard(text) => Ok(stage.heard.as_slice() == text.as_bytes()),
+        Action::Holds(is_held) => Ok(stage.holds(is_held)),
+        Action::HasQuestions(count) => Ok(stage.board.questions() == count),
         Action::IsAsked(requests) => Ok(stage.board.has_done(requests)),
         Action::Floods(who, count) => stage.floods(control, plan, who, count),
     }
