@@ -1,7 +1,7 @@
 #!/usr/bin/env python3
 """Runs generated lines of bridges whose services have a site at each end, so that each frame has one place to go, and checks
 that the report accounts for every frame: those that entered are those that left, were dropped by a bridge with a reason, were
-refused by a full queue, or were lost on a link. A strict run has status 0 if and only if nothing was dropped between bridges,
+refused by a full queue, were lost on a link, or are in transit at the end of a run that stops early. A strict run has status 0 if and only if nothing was dropped between bridges,
 refused, or dropped while the tree changed. The exit status is 0 if each run adds up.
 
     interop/balance.py [--runs N] [--seed N]
@@ -23,6 +23,8 @@ PLAIN = {**os.environ, "PBNET_PLAIN": "1"}
 BETWEEN = {"not-member", "untagged", "malformed", "worn", "long"}
 # The reasons for which a frame is lost while the tree changes.
 LATE = {"not-forwarding", "no-port"}
+# What became of frames, in the order of `sums`.
+NAMES = ("entered", "left", "dropped", "refused", "lost", "in transit")
 
 
 def frames(rng, port):
@@ -42,6 +44,8 @@ def plan_of(rng):
     lines = ["[network]", f'spanning = "{spanning}"', f"lossless = {rng.choice(['true', 'false'])}"]
     if spanning == "rstp":
         lines += ['queues = "class"', f"tick_every = {rng.randrange(20, 60)}", f"hold = {rng.choice([0, 40])}"]
+    if rng.random() < 0.3:
+        lines += [f"turns = {rng.randrange(1, 400)}"]
     for number in range(1, bridges + 1):
         lines += ["[[bridge]]", f'name = "B{number}"', f'address = "02-00-00-00-01-{number:02x}"']
         lines += [f"queue = {rng.choice([2, 8, 64])}"]
@@ -63,13 +67,13 @@ def plan_of(rng):
 
 
 def sums(document):
-    """Returns how many frames entered, left, were dropped, refused and lost, and how many losses a strict run has."""
+    """Returns how many frames entered, left, were dropped, refused and lost, and how many are in transit."""
     entered = sum(port["entered"] for port in document["ports"])
     left = sum(port["left"] for port in document["ports"])
     dropped = sum(drop["count"] for drop in document["drops"])
     refused = sum(loss["count"] for loss in document["losses"] if loss["what"] == "copies not queued")
     lost = sum(link["ab_lost"] + link["ba_lost"] for link in document["links"])
-    return entered, left, dropped, refused, lost
+    return entered, left, dropped, refused, lost, document.get("in_transit", 0)
 
 
 def is_between(drop):
@@ -79,11 +83,15 @@ def is_between(drop):
 
 def check(document, status, text):
     """Returns what is wrong with a run: its sum, or its status."""
-    entered, left, dropped, refused, lost = sums(document)
-    if document.get("ended") != "drained":
+    entered, left, dropped, refused, lost, in_transit = sums(document)
+    if document.get("ended") not in ("drained", "limit"):
         return f"it ended {document.get('ended')}"
-    if entered != left + dropped + refused + lost:
-        return f"{entered} frames entered, {left} left, {dropped} dropped, {refused} refused, {lost} lost"
+    if entered != left + dropped + refused + lost + in_transit:
+        return f"{entered} frames entered, {left} left, {dropped} dropped, {refused} refused, {lost} lost, {in_transit} in transit"
+    if in_transit and document["ended"] == "drained":
+        return f"it drained, and {in_transit} frames are in transit"
+    if document["ended"] == "limit":
+        return None if status == 4 else f"it reached its limit, and the status of a strict run is {status}"
     certain = any(is_between(drop) and drop["reason"] in BETWEEN for drop in document["drops"]) or document["losses"]
     possible = certain or any(drop["reason"] in LATE for drop in document["drops"])
     if status == 0 and certain or status == 4 and not possible:
@@ -123,9 +131,9 @@ def main():
             if why:
                 wrong += 1
                 print(f"plan {seed}: {why}", file=sys.stderr)
-            total.update(dict(zip(("entered", "left", "dropped", "refused", "lost"), sums(document))))
+            total.update(dict(zip(NAMES, sums(document))))
             statuses[status] += 1
-    told = ", ".join(f"{total[name]} {name}" for name in ("entered", "left", "dropped", "refused", "lost"))
+    told = ", ".join(f"{total[name]} {name}" for name in NAMES)
     print(f"{options.runs} runs: {told}; strict status 0: {statuses[0]}, 4: {statuses[4]}; {wrong} wrong")
     return 1 if wrong else 0
 

@@ -1,13 +1,15 @@
-//! The gate of a run with ports that stay.
+//! The gate of a run with sockets.
 
 use crate::door::GateDoor;
+use crate::pacing::GateClock;
 use crate::telling::name_at;
+use crate::watch::Watches;
 use pb_lan::{CustomerPlan, Place};
-use pb_run::{Bells, Dropped, Gate, Go, PortView, Wish};
+use pb_run::{Bells, Dropped, Gate, Go, PortView, StationView, Wish};
 use pb_run_control::{Opening, PeerChange, RunProgress};
 use std::net::{Net, TcpListener, TcpStream};
 use std::sync::Mutex;
-use std::time::Clock;
+use std::time::{Clock, Duration};
 
 /// The number of turns of the first bridge's worker between two looks at the doors, while it has something to do.
 const LOOK: u64 = 16;
@@ -22,14 +24,18 @@ struct News {
     change: PeerChange,
 }
 
-/// A gate that attends to the doors of ports that stay: it reports how their peers come and go, and connects to the
-/// next peer. In all else it is the gate inside. The worker of the first bridge does this before its turns.
+/// A gate that attends to sockets. The workers of their ports sleep in it until the sockets have octets or room. It
+/// reports how the peers of ports that stay come and go, and connects to the next peer. The worker of the first bridge
+/// does this before its turns. In all else it is the gate inside.
 #[derive(Drop)]
 pub(crate) struct Attended<'a, R, G> {
     pub rt: &'a R,
     pub gate: &'a G,
     pub customers: &'a [CustomerPlan],
     pub doors: Mutex<Vec<GateDoor>>,
+    pub watches: Watches,
+    /// The clocks of ports whose frames enter by the times of their records.
+    pub clocks: Vec<GateClock>,
 }
 
 impl<R: Net + Clock, G> Attended<'_, R, G> {
@@ -41,9 +47,23 @@ impl<R: Net + Clock, G> Attended<'_, R, G> {
                 let number = door.number;
                 return Some(News { number, change });
             }
-            door.connect(self.rt);
+            if door.connect(self.rt) {
+                self.watches.rouse(door.number);
+            }
         }
         None
+    }
+
+    /// Sets the clock of a place, if it is a port that has one.
+    fn set_clock(&self, place: Place) {
+        let Place::Customer(number) = place else {
+            return;
+        };
+        for clock in &self.clocks {
+            if clock.number == number {
+                clock.set(self.rt);
+            }
+        }
     }
 
     /// Returns the name of the port of this number, from 1.
@@ -57,6 +77,7 @@ where
     R: Net<Listener = TcpListener, Stream = TcpStream> + Clock + Sync,
 {
     fn pass(&self, place: Place, turn: u64) -> Go {
+        self.set_clock(place);
         if turn % LOOK == 0 && place == Place::Bridge(1) {
             for _ in 0..MOST {
                 match self.next_news() {
@@ -69,6 +90,7 @@ where
     }
 
     fn pass_when_idle(&self, place: Place, turn: u64) -> Go {
+        self.set_clock(place);
         if place == Place::Bridge(1) {
             for _ in 0..MOST {
                 match self.next_news() {
@@ -93,7 +115,23 @@ where
     }
 
     fn is_watched(&self, place: Place) -> bool {
-        self.gate.is_watched(place)
+        match place {
+            Place::Customer(number) if self.watches.has(number) => true,
+            _ => self.gate.is_watched(place),
+        }
+    }
+
+    fn sleep(&self, place: Place, time: Duration) -> Option<bool> {
+        match place {
+            Place::Customer(number) => self.watches.sleep(number, time),
+            _ => None,
+        }
+    }
+
+    fn rouse(&self, place: Place) {
+        if let Place::Customer(number) = place {
+            self.watches.rouse(number);
+        }
     }
 
     fn is_open(&self) -> bool {
@@ -110,6 +148,14 @@ where
 
     fn shows(&self, place: Place, port: u8, view: PortView) {
         self.gate.shows(place, port, view);
+    }
+
+    fn asks_stations(&self, place: Place) -> bool {
+        self.gate.asks_stations(place)
+    }
+
+    fn shows_stations(&self, place: Place, stations: Option<Vec<StationView>>) {
+        self.gate.shows_stations(place, stations);
     }
 }
 

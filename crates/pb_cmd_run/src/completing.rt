@@ -1,17 +1,20 @@
-//! Captures after a run: files to which no frame was written become captures without records.
+//! Captures after a run: files to which no frame was written become captures without records, and those to which a write
+//! failed end with a whole record.
 
 ghost use Rattle.std.specs.Prelude.{◌≡◌, OnOk};
 ghost use Rattle.std.specs.Io.KnownBytes.{Appends};
 ghost use Rattle.pb_port.specs.Spelling.{file_header};
 
+use crate::cut::{WriteError, cut};
 use crate::telling::{name_at, show_path_fault};
 use pb_frame::Text;
 use pb_lan::CustomerPlan;
 use pb_run_ports::Verb;
 use std::alloc::Global;
-use std::fs::File;
+use std::fs::{File, Files};
 use std::io;
 use std::io::Write;
+use std::sync::Arc;
 
 /// A file that a port writes.
 #[derive(Drop)]
@@ -20,6 +23,8 @@ pub(crate) struct WrittenFile {
     pub path: Text,
     /// A handle of the file, which shares its position with that of the port.
     pub file: File,
+    /// The error with which a write of the port failed.
+    pub error: Arc<WriteError, Global>,
 }
 
 /// The capture files of a port of a network.
@@ -67,8 +72,25 @@ fn complete(file: &File) -> io::Result<()> {
     Ok(())
 }
 
-/// Makes each empty file of the ports a capture without records. Writes a line to `errors` for each that fails.
-pub(crate) fn complete_all<E: Write>(
+/// Completes the file of a port: an empty file becomes a capture without records, and a file to which a write failed
+/// keeps its whole records.
+///
+/// # Errors
+///
+/// The error with which a write failed, or that of the system.
+fn finish<R: Files<File = File>>(rt: &R, alloc: Global, written: &WrittenFile) -> io::Result<()> {
+    match written.error.newest() {
+        Some(error) => {
+            let _ = cut(rt, alloc, written);
+            Err(error)
+        }
+        None => complete(&written.file),
+    }
+}
+
+/// Completes the files of the ports. Writes a line to `errors` for each to which a write failed.
+pub(crate) fn complete_all<R: Files<File = File>, E: Write>(
+    rt: &R,
     alloc: Global,
     customers: &[CustomerPlan],
     files: &[CaptureFiles],
@@ -78,7 +100,7 @@ pub(crate) fn complete_all<E: Write>(
         let Some(written) = &captures.written else {
             continue;
         };
-        if let Err(error) = complete(&written.file) {
+        if let Err(error) = finish(rt, alloc, written) {
             let name = name_at(customers, captures.place);
             let path = written.path.as_str();
             show_path_fault(alloc, name, Verb::Write, path, &error, errors);

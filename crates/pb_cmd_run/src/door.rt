@@ -83,19 +83,26 @@ impl GateDoor {
         self.pause = SHORTEST;
     }
 
-    /// Connects to the next peer, if the port waits for one and the pause is over.
-    pub(crate) fn connect<R: Net + Clock>(&mut self, rt: &R) {
+    /// Connects to the next peer, if the port waits for one and the pause is over. Returns whether the port has one
+    /// now.
+    pub(crate) fn connect<R: Net + Clock>(&mut self, rt: &R) -> bool {
         let Some(path) = &self.path else {
-            return;
+            return false;
         };
         if !self.is_wanted || !self.is_due(rt) {
-            return;
+            return false;
         }
         let connected = UnixStream::connect(rt, path.as_str());
         self.tried = Instant::now(rt).ok();
         match connected {
-            Ok(stream) => self.hand(stream),
-            Err(_) => self.pause = self.pause.saturating_mul(2).min(LONGEST),
+            Ok(stream) => {
+                self.hand(stream);
+                true
+            }
+            Err(_) => {
+                self.pause = self.pause.saturating_mul(2).min(LONGEST);
+                false
+            }
         }
     }
 }

@@ -8,12 +8,14 @@
 mod any_port;
 mod attended;
 mod completing;
+mod cut;
 mod door;
 mod input;
 mod linger;
 mod network;
 mod network_fault;
 mod outside;
+mod pacing;
 mod pcapng;
 mod peer;
 mod plug;
@@ -26,6 +28,7 @@ mod stalls;
 mod system;
 mod telling;
 mod visits;
+mod watch;
 mod watched;
 
 pub use network::run_network;

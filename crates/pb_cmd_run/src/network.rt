@@ -25,6 +25,7 @@ use crate::plug::plug;
 use crate::port_faults::show_port_faults;
 use crate::report::write_report;
 use crate::settings::RunSettings;
+use crate::socket_ports::Attendance;
 use crate::stalls::show_stalls;
 use crate::watched::Watched;
 use pb_frame::Memory;
@@ -34,7 +35,7 @@ use pb_messages::write_whole;
 use pb_report::write_refusal;
 use pb_run::{Held, Ran, run_set};
 use pb_run_control::{RunProgress, Steering, Traffic};
-use pb_run_losses::{Strictness, dropped_of, exit_status, is_whole, lost_of};
+use pb_run_losses::{Strictness, dropped_of, exit_status, is_whole, lost_of, transit_of};
 use pb_service::{PlanFault, PlanFile, PortSpec, read_plan_file};
 use std::alloc::Global;
 use std::fs::{File, Files};
@@ -97,11 +98,15 @@ pub(crate) fn show<E: Write>(text: &str, errors: &mut E) {
     }
 }
 
-/// Writes the counts of dropped frames that are no losses to `errors`. They are left out if an allocation fails.
+/// Writes the counts of dropped frames that are no losses to `errors`, and that of frames in transit. They are left out
+/// if an allocation fails.
 fn show_drops<E: Write>(alloc: Global, plan: &Plan, counts: &Tallies, errors: &mut E)
     requires { IsSound plan.now }
 {
     if let Ok(text) = dropped_of(alloc, plan, counts) {
+        show(text.as_str(), errors);
+    }
+    if let Ok(text) = transit_of(alloc, counts) {
         show(text.as_str(), errors);
     }
 }
@@ -186,7 +191,7 @@ fn run_ports<R, G: RunProgress, W: Write, E: Write>(
     errors: &mut E,
 ) -> Result<u8, NetworkFault>
 where
-    R: Files + Threads + Wait + Clock + Sync,
+    R: Files<File = File> + Threads + Wait + Clock + Sync,
     requires sound { IsSound plan.now }
     requires count { vec_len ports ≡ length plan.now.customers }
     ensures ok { IfOk result (λ status. (specs : List PortSpec) →
@@ -205,13 +210,13 @@ where
             gate.close();
             let ran = lingered(rt, ran, lingering);
             let customers = plan.customers.as_slice();
-            complete_all(alloc, customers, files, errors);
+            complete_all(rt, alloc, customers, files, errors);
             show_pcapng(rt, alloc, customers, files, ran.last.as_slice(), errors);
             tell(alloc, strictness, plan, &ran, writer, errors)
         }
         Err(fault) => {
             gate.close();
-            complete_all(alloc, plan.customers.as_slice(), files, errors);
+            complete_all(rt, alloc, plan.customers.as_slice(), files, errors);
             Err(NetworkFault::from(fault.cause))
         }
     }
@@ -251,9 +256,9 @@ where
         traffic,
     };
     let path = settings.plan;
-    let mut doors = Vec::new(alloc);
+    let mut duty = Attendance::new(alloc);
     let outside = open_ports(
-        rt, alloc, path, plan, specs, limits, traffic, &mut doors, errors,
+        rt, alloc, path, plan, specs, limits, traffic, &mut duty, errors,
     )?;
     let Outside {
         ports,
@@ -265,7 +270,9 @@ where
         rt,
         gate,
         customers: plan.customers.as_slice(),
-        doors: Mutex::new(doors),
+        doors: Mutex::new(duty.doors),
+        watches: duty.watches,
+        clocks: duty.clocks,
     };
     let ran = run_ports(
         rt,
@@ -302,9 +309,9 @@ where
 ///
 /// After the run the ports have time to write the frames that wait in them, as the settings say. An output file to
 /// which nothing was written becomes a capture without records, or `errors` reports why it can't. Sockets that ports
-/// made are removed. `errors` names the inputs that are pcapng, and has the losses ([`lost_of`]) and the other dropped
-/// frames ([`dropped_of`]) after the report. A strict run that had losses or did not end drained has the status 4 in
-/// place of 0.
+/// made are removed. `errors` names the inputs that are pcapng. After the report it has the losses ([`lost_of`]), the
+/// other dropped frames ([`dropped_of`]) and the frames in transit ([`transit_of`]). A strict run that had losses or did
+/// not end drained has the status 4 in place of 0.
 ///
 /// # Errors
 ///
@@ -352,6 +359,7 @@ where
             }
             let waits = waits_for(settings, &plan, limits);
             let steering = Steering::new(alloc, gate, &plan, traffic, events, waits)?;
+            steering.expect_peers(ports.as_slice());
             plug(rt, alloc, settings.control, &steering, errors)?;
             let ran = run_opened(
                 rt,

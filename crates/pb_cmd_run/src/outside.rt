@@ -7,15 +7,17 @@ ghost use Rattle.pb_cmd_run.specs.Scripted.{script_at};
 
 use crate::any_port::AnyPort;
 use crate::completing::{CaptureFiles, WrittenFile};
-use crate::door::GateDoor;
+use crate::cut::WriteError;
 use crate::input::Input;
 use crate::network_fault::NetworkFault;
+use crate::pacing::{PacedInput, paced, unpaced};
 use crate::peer::{Peer, SocketFile, remove_sockets};
 use crate::sink::Sink;
-use crate::socket_ports::staying_port;
+use crate::socket_ports::{Attendance, socket_port};
 use crate::system::{Output, System};
 use crate::telling::show_open_fault;
 use crate::visits::Visits;
+use crate::watch::Post;
 use crate::watched::Watched;
 use bytes::Bytes;
 use pb_frame::{Seq, Text};
@@ -33,7 +35,7 @@ use std::sync::Arc;
 use std::time::Clock;
 
 /// A port over files of the system: over two captures or over one.
-type FilePort = CapturePort<Over<Input>, Over<Sink>>;
+type FilePort = CapturePort<PacedInput, Over<Sink>>;
 
 /// A port over memory, over files of the system or over a socket of the system.
 pub(crate) type SystemPort = AnyPort<
@@ -102,9 +104,21 @@ fn scale_of(stamp: Stamp, day: Timescale) -> Timescale {
 }
 
 /// Parts the two handles of a file that a port writes: that of the port, and that which is kept until the run is over.
-fn parted(output: Output, path: Text) -> (Sink, WrittenFile) {
+/// Both have the error of a write.
+///
+/// # Errors
+///
+/// `AllocError` if an allocation failed.
+fn parted(alloc: Global, output: Output, path: Text) -> Result<(Sink, WrittenFile), AllocError> {
     let Output { file, twin, .. } = output;
-    (Sink::File(file), WrittenFile { path, file: twin })
+    let error = Arc::new(alloc, WriteError::none())?;
+    let sink = Sink::File(file, Arc::try_clone(&error)?);
+    let written = WrittenFile {
+        path,
+        file: twin,
+        error,
+    };
+    Ok((sink, written))
 }
 
 /// Appends the files of a port.
@@ -126,38 +140,55 @@ fn put_files(
     Ok(())
 }
 
+/// Returns what a port at a place writes to. Its files, with that which it reads, are appended to `files`.
+///
+/// # Errors
+///
+/// `AllocError` if an allocation failed.
+fn sink_of(
+    alloc: Global,
+    files: &mut Vec<CaptureFiles>,
+    place: usize,
+    read: Option<Text>,
+    output: Output,
+    write: Text,
+) -> Result<Sink, AllocError> {
+    let (sink, written) = parted(alloc, output, write)?;
+    put_files(files, place, read, Some(written))?;
+    Ok(sink)
+}
+
 /// Returns a port that reads one capture and writes another.
 fn capture_port(
     alloc: Global,
     capacity: u16,
     scale: Timescale,
-    input: Input,
+    input: PacedInput,
     sink: Sink,
 ) -> FilePort
     requires { (0 < capacity) × (capacity ≤ 4096) }
 {
-    let (input, sink) = (Over::new(input), Over::new(sink));
-    CapturePort::on_scale(alloc, capacity, scale, input, sink)
+    CapturePort::on_scale(alloc, capacity, scale, input, Over::new(sink))
 }
 
 /// Returns a port that writes a capture and that no frame enters.
 fn record_port(alloc: Global, capacity: u16, scale: Timescale, sink: Sink) -> FilePort
     requires { (0 < capacity) × (capacity ≤ 4096) }
 {
-    let (input, sink) = (Over::new(Input::Empty), Over::new(sink));
+    let (input, sink) = (unpaced(Input::Empty), Over::new(sink));
     CapturePort::recording(alloc, capacity, scale, input, sink)
 }
 
 /// Returns a port that reads a capture and drops the frames that leave.
-fn replay_port(alloc: Global, capacity: u16, input: Input) -> FilePort
+fn replay_port(alloc: Global, capacity: u16, input: PacedInput) -> FilePort
     requires { (0 < capacity) × (capacity ≤ 4096) }
 {
-    let (input, sink) = (Over::new(input), Over::new(Sink::Nowhere));
-    CapturePort::new(alloc, capacity, input, sink)
+    CapturePort::new(alloc, capacity, input, Over::new(Sink::Nowhere))
 }
 
 /// Returns the port at a place of the plan over its open files or its open socket. The files of a port over captures
-/// are appended to `files`, the door of a port that stays to `doors`.
+/// are appended to `files`. The gate attends to its clock and to the door of a port that stays. Sockets are put under
+/// watch at the post.
 ///
 /// # Errors
 ///
@@ -168,12 +199,15 @@ fn port_of(
     place: usize,
     day: Timescale,
     opened: SystemOpened,
+    post: Post,
     files: &mut Vec<CaptureFiles>,
-    doors: &mut Vec<GateDoor>,
+    duty: &mut Attendance,
 ) -> Result<SystemPort, AllocError>
     requires { (0 < capacity) × (capacity ≤ 4096) }
     ensures { IfOk result (λ port. script_at port ≡ (shown opened).frames) }
 {
+    let number = number_at(place);
+    let (clocks, doors) = (&mut duty.clocks, &mut duty.doors);
     match opened {
         Opened::Memory(frames) => {
             let script = script_of(alloc, frames)?;
@@ -183,11 +217,12 @@ fn port_of(
             input,
             output,
             read,
+            pace,
             write,
             stamp,
         } => {
-            let (sink, written) = parted(output, write);
-            put_files(files, place, Some(read), Some(written))?;
+            let sink = sink_of(alloc, files, place, Some(read), output, write)?;
+            let input = paced(alloc, number, pace, input, clocks)?;
             let scale = scale_of(stamp, day);
             let port = capture_port(alloc, capacity, scale, input, sink);
             Ok(AnyPort::Capture(port))
@@ -197,30 +232,24 @@ fn port_of(
             write,
             stamp,
         } => {
-            let (sink, written) = parted(output, write);
-            put_files(files, place, None, Some(written))?;
+            let sink = sink_of(alloc, files, place, None, output, write)?;
             let scale = scale_of(stamp, day);
             Ok(AnyPort::Capture(record_port(alloc, capacity, scale, sink)))
         }
-        Opened::Replay { input, read } => {
+        Opened::Replay { input, read, pace } => {
             put_files(files, place, Some(read), None)?;
+            let input = paced(alloc, number, pace, input, clocks)?;
             Ok(AnyPort::Capture(replay_port(alloc, capacity, input)))
         }
-        Opened::Socket {
-            stream,
-            stays: false,
-        } => {
-            let peer = Over::new(stream);
-            Ok(AnyPort::Socket(SocketPort::new(alloc, capacity, peer)))
-        }
-        Opened::Socket {
-            stream,
-            stays: true,
-        } => {
-            let port = staying_port(alloc, capacity, number_at(place), stream, doors)?;
-            Ok(AnyPort::Staying(port))
+        Opened::Socket { stream, stays } => {
+            socket_port(alloc, capacity, number, stream, stays, post, doors)
         }
     }
+}
+
+/// Checks whether an open port has sockets.
+fn has_sockets(opened: &SystemOpened) -> bool {
+    matches!(opened, Opened::Socket { .. })
 }
 
 /// Returns the number of frames that may wait in the customer port at a place, from 0: 1 to 4096.
@@ -238,19 +267,20 @@ fn number_at(place: usize) -> u8 {
 }
 
 /// Returns the ports of a plan over their open files and sockets. Their frames are counted in `traffic`. The files of
-/// ports over captures are appended to `files`, the doors of ports that stay to `doors`.
+/// ports over captures are appended to `files`. The gate attends to the sockets and clocks.
 ///
 /// # Errors
 ///
 /// `AllocError` if an allocation failed.
 fn ports_of(
+    net: &impl Net,
     alloc: Global,
     plan: &Plan,
     day: Timescale,
     opened: Vec<SystemOpened>,
     traffic: &Arc<Traffic, Global>,
     files: &mut Vec<CaptureFiles>,
-    doors: &mut Vec<GateDoor>,
+    duty: &mut Attendance,
 ) -> Result<Vec<Watched<SystemPort>>, AllocError>
     requires sound { IsSound plan.now }
     requires count { vec_len opened ≡ length plan.now.customers }
@@ -262,7 +292,8 @@ fn ports_of(
     for port in opened {
         let place = ports.len();
         let capacity = capacity_of(plan, place);
-        let port = port_of(alloc, capacity, place, day, port, files, doors)?;
+        let post = duty.watches.add(net, alloc, has_sockets(&port))?;
+        let port = port_of(alloc, capacity, place, day, port, post, files, duty)?;
         let traffic = Arc::try_clone(traffic)?;
         ports.push(Watched {
             port,
@@ -312,8 +343,8 @@ fn open_system<R: Files<File = File> + Net, E: Write>(
     }
 }
 
-/// Opens the ports of a plan that was read at `plan_path`. Their frames are counted in `traffic`. The doors of ports
-/// that stay are appended to `doors`.
+/// Opens the ports of a plan that was read at `plan_path`. Their frames are counted in `traffic`. The gate attends to
+/// their sockets.
 ///
 /// # Errors
 ///
@@ -327,7 +358,7 @@ pub(crate) fn open_ports<R: Files<File = File> + Net + Clock, E: Write>(
     specs: Vec<PortSpec>,
     limits: Limits,
     traffic: &Arc<Traffic, Global>,
-    doors: &mut Vec<GateDoor>,
+    duty: &mut Attendance,
     errors: &mut E,
 ) -> Result<Outside, NetworkFault>
     requires sound { IsSound plan.now }
@@ -341,7 +372,7 @@ pub(crate) fn open_ports<R: Files<File = File> + Net + Clock, E: Write>(
     let OpenSystem { opened, sockets } = system;
     let day = day_scale(rt, limits.tick_ms);
     let mut files = Vec::new(alloc);
-    match ports_of(alloc, plan, day, opened, traffic, &mut files, doors) {
+    match ports_of(rt, alloc, plan, day, opened, traffic, &mut files, duty) {
         Ok(ports) => Ok(Outside {
             ports,
             files,

@@ -2,6 +2,7 @@
 
 use crate::door::PortDoor;
 use crate::visits::Visits;
+use crate::watch::Post;
 use mio::net::{UnixListener, UnixStream};
 use pb_control_socket::node_at;
 use pb_frame::Text;
@@ -24,6 +25,8 @@ pub(crate) struct Peer {
     socket: Socket,
     /// The path at which a port that stays connects again.
     path: Option<Text>,
+    /// Where the port puts its sockets under watch.
+    post: Post,
 }
 
 impl Peer {
@@ -32,6 +35,7 @@ impl Peer {
         Peer {
             socket: Socket::Here(stream),
             path,
+            post: Post::none(),
         }
     }
 
@@ -40,7 +44,17 @@ impl Peer {
         Peer {
             socket: Socket::Awaited(listener),
             path: None,
+            post: Post::none(),
         }
+    }
+
+    /// Puts the socket of the peer under watch at a post, and each later one.
+    pub(crate) fn watch(&mut self, post: Post) {
+        match &mut self.socket {
+            Socket::Here(stream) => post.register(stream),
+            Socket::Awaited(listener) => post.register(listener),
+        }
+        self.post = post;
     }
 
     /// Takes the path at which the port connects again, if it does.
@@ -50,10 +64,10 @@ impl Peer {
 
     /// Returns the peer as the first of a port that stays, with the port's side of its door.
     pub(crate) fn staying(self, door: PortDoor) -> Visits {
-        let Peer { socket, .. } = self;
+        let Peer { socket, post, .. } = self;
         match socket {
-            Socket::Here(stream) => Visits::new(Some(stream), None, door),
-            Socket::Awaited(listener) => Visits::new(None, Some(listener), door),
+            Socket::Here(stream) => Visits::new(Some(stream), None, door, post),
+            Socket::Awaited(listener) => Visits::new(None, Some(listener), door, post),
         }
     }
 
@@ -65,7 +79,8 @@ impl Peer {
     /// The error of the system.
     fn meet(&mut self) -> io::Result<()> {
         if let Socket::Awaited(listener) = &self.socket {
-            let (stream, _) = listener.accept()?;
+            let (mut stream, _) = listener.accept()?;
+            self.post.register(&mut stream);
             self.socket = Socket::Here(stream);
         }
         Ok(())

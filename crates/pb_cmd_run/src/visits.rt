@@ -3,6 +3,7 @@
 ghost use Rattle.std.specs.Prelude.{◌≡◌};
 
 use crate::door::PortDoor;
+use crate::watch::Post;
 use mio::net::{UnixListener, UnixStream};
 use pb_port::{Device, Got, Line, Parting};
 use pb_run_control::PeerChange;
@@ -19,6 +20,8 @@ pub(crate) struct Visits {
     listener: Option<UnixListener>,
     /// The port's side of its door.
     door: PortDoor,
+    /// Where the port puts its sockets under watch.
+    post: Post,
     /// Whether a write to the peer failed.
     is_broken: bool,
 }
@@ -29,16 +32,19 @@ fn may_wait(error: &Error) -> bool {
 }
 
 impl Visits {
-    /// Returns the stream of a port with this peer or listener. A peer that is there already has come now.
+    /// Returns the stream of a port with this peer or listener, which are under watch. A peer that is there already has
+    /// come now.
     pub(crate) fn new(
         peer: Option<UnixStream>,
         listener: Option<UnixListener>,
         door: PortDoor,
+        post: Post,
     ) -> Visits {
         let mut visits = Visits {
             peer: None,
             listener,
             door,
+            post,
             is_broken: false,
         };
         if let Some(peer) = peer {
@@ -54,18 +60,17 @@ impl Visits {
         self.door.report(PeerChange::Connected);
     }
 
-    /// Returns the next peer, if one waits.
+    /// Returns the next peer, if one waits. It is under watch from now on.
     fn next(&mut self) -> Option<UnixStream> {
         if !self.door.is_ready() {
             return None;
         }
-        match &self.listener {
-            Some(listener) => {
-                let (peer, _) = listener.accept().ok()?;
-                Some(peer)
-            }
-            None => self.door.next(),
-        }
+        let mut peer = match &self.listener {
+            Some(listener) => listener.accept().ok()?.0,
+            None => self.door.next()?,
+        };
+        self.post.register(&mut peer);
+        Some(peer)
     }
 
     /// Takes the next peer in, if none is there and one waits.

@@ -21,6 +21,7 @@ mod pipes;
 mod plans;
 mod reports;
 mod sheet;
+mod staying;
 mod times;
 
 use self::sheet::Sheet;

@@ -127,7 +127,8 @@ fn put_nowhere(
 ) -> Result<(), Memory>
     requires { port ≤ 16 }
     ensures { OnOk result (string_bytes out.new ≡ string_bytes out.old
-        ++ shown choice.late choice.lost (drop_line name.now port (count_by (goes_nowhere port) tally.now) (drop_word 9))) }
+        ++ shown choice.late choice.lost
+        (drop_line name.now port (count_by (goes_nowhere port) tally.now) (drop_word 9))) }
 {
     if choice.late == choice.lost {
         put_drop(
@@ -195,9 +196,9 @@ fn put_bridge(
 ///
 /// A frame is lost if it was dropped because an allocation failed, or between bridges as `not-member`, `untagged`,
 /// `malformed`, `worn` or `long`. If a port changed its state after its bridge had received a customer's frame, frames
-/// that were dropped as `not-forwarding`, or relayed to no port (`no-port`), are lost too: the tree may not have reached
-/// their destinations. In a tree that stays they are not, since its ports alone lead to all places (IEEE 802.1Q clause
-/// 8.6). A bridge for which the record has no list has no lines.
+/// that were dropped as `not-forwarding`, or relayed to no port (`no-port`), are lost too: the tree may not have
+/// reached their destinations. In a tree that stays they are not, since its ports alone lead to all places (IEEE
+/// 802.1Q clause 8.6). A bridge for which the record has no list has no lines.
 ///
 /// # Errors
 ///

@@ -8,9 +8,11 @@ mod drops;
 mod losses;
 mod lost;
 mod strictness;
+mod transit;
 mod unwritten;
 
 pub use drops::put_drops;
 pub use losses::put_losses;
 pub use lost::{dropped_of, is_whole, lost_of};
 pub use strictness::{Strictness, exit_status};
+pub use transit::transit_of;

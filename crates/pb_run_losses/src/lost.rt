@@ -29,8 +29,8 @@ fn put_unsettled(out: &mut String, settled: &Result<Option<bool>, Memory>) -> Re
 ///
 /// Each customer port has a line `port NAME: N frames not written`, which counts the frames that its port took and
 /// still holds and those that came to it after a write had failed. The lines of [`put_losses`] follow, and those of
-/// [`put_drops`] for dropped frames that are lost. The last line is `bridges not converged` if the bridges decide the states of ports and have not converged (IEEE 802.1D-2004 clause
-/// 17). A count of 0 has no line.
+/// [`put_drops`] for dropped frames that are lost. The last line is `bridges not converged` if the bridges decide the
+/// states of ports and have not converged (IEEE 802.1D-2004 clause 17). A count of 0 has no line.
 ///
 /// # Errors
 ///
@@ -57,7 +57,8 @@ pub fn lost_of(
     Ok(out)
 }
 
-/// Returns the counts of dropped frames that are no losses, as [`put_drops`] writes them. It is empty if there are none.
+/// Returns the counts of dropped frames that are no losses, as [`put_drops`] writes them. It is empty if there are
+/// none.
 ///
 /// # Errors
 ///

@@ -11,8 +11,9 @@ const LOST: u8 = 4;
 pub enum Strictness {
     /// The status is 0 if no fault is reported.
     Lenient,
-    /// The status is 4 in place of 0 if a queue or a learning table was full, an allocation for either failed, a dropped
-    /// frame was lost, a frame could not be written, the run did not end drained, or the bridges have not converged.
+    /// The status is 4 in place of 0 if a queue or a learning table was full, an allocation for either failed, a
+    /// dropped frame was lost, a frame could not be written, the run did not end drained, or the bridges have not
+    /// converged.
     Strict,
 }
 

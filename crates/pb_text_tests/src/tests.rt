@@ -10,4 +10,5 @@ mod line_words;
 mod lines;
 mod losses;
 mod survive_arguments;
+mod transit;
 mod wanted;

@@ -5,7 +5,7 @@ ghost use Rattle.std.specs.Prelude.{◌≡◌, Some, IfOk};
 use bytes::Bytes;
 use pb_cmd_run::{Deed, FileUser, OpenFault, Opened, Openings, open_all};
 use pb_frame::{Memory, Seq, Text};
-use pb_service::{PortSpec, Stamp};
+use pb_service::{Pace, PortSpec, Stamp};
 use std::alloc::{AllocError, Global};
 use std::io;
 use std::io::{Error, ErrorKind};
@@ -108,6 +108,7 @@ fn capture(alloc: Global, read: &str, write: &str) -> Result<PortSpec, AllocErro
     let read = text(alloc, read)?;
     Ok(PortSpec::Capture {
         read,
+        pace: Pace::AtOnce,
         write: text(alloc, write)?,
         stamp: Stamp::Ticks,
     })
@@ -125,6 +126,7 @@ fn record(alloc: Global, write: &str) -> Result<PortSpec, AllocError> {
 fn replay(alloc: Global, read: &str) -> Result<PortSpec, AllocError> {
     Ok(PortSpec::Replay {
         read: text(alloc, read)?,
+        pace: Pace::Times(7),
     })
 }
 

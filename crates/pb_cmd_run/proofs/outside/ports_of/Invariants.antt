@@ -5,7 +5,7 @@ use Rattle.pb_cmd_run.specs.Scripted.{script_at}
 use Rattle.pb_cmd_run.proofs.outside.ports_of.Given as goal
 
 abbrev pub invariant-loop-port : goal.invariant-loop-port
-invariant-loop-port l = record {
+invariant-loop-port g l = record {
   count : vec_len l.ports ≡ length l.yielded;
   scripts : map (λ w. script_at w.port) l.ports.items ++ map (λ port. (shown port).frames) (into_iter_items l.port-iterator)
       ≡ map (λ port. (shown port).frames) (into_iter_items l.initial.port-iterator);
