@@ -41,7 +41,7 @@ def groups(text):
 READ = {
     **dict.fromkeys(
         "bridges links services ports line column rule entered left filtered ab_taken ab_lost ba_taken ba_lost ticks number others events "
-        "refused lost vid priority cost root_port depth part_nothing failures_tried most_ticks part_a_service form_a_loop "
+        "in_transit dropped refused lost vid priority cost root_port depth part_nothing failures_tried most_ticks part_a_service form_a_loop "
         "do_not_converge are_accepted unhealthy_services checked_links checked_bridges checked_pairs better worse old_most_ticks "
         "new_most_ticks".split(),
         number,
@@ -71,7 +71,7 @@ TWO_DOWN = rf"(?P<down>links) (?P<name>{NAME}) (?P<other>{NAME})(?: service (?P<
 
 ENDS = [("plan_fault", PLAN_FAULT, {}), ("", FAULT, {})]
 FORESTS = [("", FOREST, {}), ("loops", LOOP, {})]
-HOP = rf"(?P<indent> *)(?P<bridge>{NAME}) (?P<port_number>\d+) from (?P<from>{NAME}), (?:untagged|(?P<service>[\w -]+) vid (?P<vid>\d+) priority (?P<priority>\d+)(?:, tag (?P<tag_taken_off>[0-9a-f]+) removed)?)(?:, (?P<source>source [\w ]+|table full))?(?:, (?P<way>known|flooded|no egress port))?: "
+HOP = rf"(?P<indent> *)(?P<bridge>{NAME}) (?P<port_number>\d+) from (?P<from>{NAME}), (?:untagged|(?P<service>[\w -]+) vid (?P<vid>\d+) priority (?P<priority>\d+)(?:, tag (?P<tag_taken_off>[0-9a-f]+) removed)?)(?:, (?P<source>source [\w ]+|table full))?(?:, (?P<way>known|flooded))?: "
 PART = rf"(?P<part>bridge|link|service|port) (?P<name>{NAME})"
 SERVICE = rf"service (?P<service>{NAME}): "
 CHANGE = r"better and worse|better|worse|no change"
@@ -99,6 +99,7 @@ LINES = {
         ("losses", rf"bridge (?P<bridge>{NAME}): (?P<count>\d+) (?P<what>sources not learnt): (?P<cause>full|memory)", {}),
         ("losses", r"(?P<what>bridges not converged)", {}),
         ("drops", rf"bridge (?P<bridge>{NAME}) port (?P<bridge_port>\d+): (?P<count>\d+) frames dropped: (?P<reason>[a-z-]+)", {}),
+        ("", r"frames in transit: (?P<in_transit>\d+)", {}),
         ("paths", rf"error: port (?P<port>{NAME}): (?:cannot )?(?P<use>read|write|connect|listen) (?P<path>.*?): (?P<why>.*)", {}),
         ("paths", r"error: cannot create control socket (?P<path>.*?): (?P<why>.*)", {"use": "control"}),
         ("warnings", r"warning: (?P<message>.*)", {}), *ENDS,
@@ -157,13 +158,13 @@ LINES = {
         ("", SETTLED_AFTER, {}),
         ("frames", rf"in (?P<frame>[0-9a-f]+): polled (?P<port>{NAME}) (?P<number>\d+)", {}),
         ("hops", HOP + r"relayed(?P<relayed_to>(?: \d+)*)(?P<no_room>(?: (?:full|memory) \d+)*)", {"event": "received", "outcome": "relayed"}),
-        ("hops", HOP + r"filtered (?P<reason>.*)", {"event": "received", "outcome": "filtered"}),
+        ("hops", HOP + r"dropped: (?P<reason>.*)", {"event": "received", "outcome": "dropped"}),
         ("hops", rf"(?P<indent> *)(?P<bridge>{NAME}) (?P<port_number>\d+) to (?P<to>{NAME})(?:, tag (?P<tag>removed|[0-9a-f]+(?P<put_on> added)?))?", {"event": "sent"}),
         ("hops", rf"(?P<indent> *)(?P<link>{NAME}) (?P<direction>ab|ba): (?P<event>taken|lost) (?P<number>\d+)", {}),
         ("hops", rf"(?P<indent> *)(?P<port>{NAME}): delivered (?P<frame>[0-9a-f]+)", {"event": "delivered"}),
         ("", r"other events (?P<others>\d+)", {}),
         ("", r"loops over(?P<goes_round_over>.*); ended after (?P<events>\d+) events", {}),
-        ("", r"(?:delivered at(?P<left_at>.*)|not delivered); refused (?P<refused>\d+); lost (?P<lost>\d+)", {}), *ENDS,
+        ("", r"(?:delivered at(?P<left_at>.*)|not delivered); dropped (?P<dropped>\d+); refused (?P<refused>\d+); lost (?P<lost>\d+)", {}), *ENDS,
     ],
 }
 # The lists of each document, and how their lines stand there.

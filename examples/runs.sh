@@ -442,6 +442,14 @@ ended 3
 echo "fault: read" | same out/endless -
 grep -q "more than 67108864 octets" out/errors || wrong "the reason is not told"
 
+begin "a folder for a plan file"
+for command in check step run tree survive draw; do
+    runs out/folder "$command" examples
+    ended 3
+    says out/folder "fault: read"
+    says out/errors "error: cannot read examples: Is a directory (os error 21)"
+done
+
 begin "captures by standard input and by a named pipe"
 rm -f out/late.fifo
 mkfifo out/late.fifo

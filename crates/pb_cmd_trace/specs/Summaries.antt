@@ -59,18 +59,32 @@ left_words plan rec = flat_map (left_word plan rec) (numbers_from 1 plan.custome
 abbrev pub left_text : List ℕ → List ℕ
 left_text names = if length names == 0 then codes "not delivered" else codes "delivered at" ++ names
 
--- the copies that an outcome drops: a filtered frame, or one for each port that got no copy
+-- a frame is dropped for a reason, or as there is no port for it
+abbrev pub drops_frame : Outcome → Bool
+drops_frame (Relayed chosen refused) = length chosen == 0
+drops_frame (Filtered reason) = true
+drops_frame Heard = false
+
+-- the customer frame that a bridge dropped in a step
+abbrev pub drops : Step → ℕ
+drops (Receive port item learnt outcome moved) = if is_some item.mark && drops_frame outcome then 1 else 0
+drops _ = 0
+
+-- the customer frames that bridges dropped
+abbrev pub dropped : List (List Step) → ℕ
+dropped bridges = sum_by (λ steps. sum_by drops steps) bridges
+
+-- the ports that got no copy
 abbrev pub refused_by : Outcome → ℕ
 refused_by (Relayed chosen refused) = length refused
-refused_by (Filtered reason) = 1
-refused_by Heard = 0
+refused_by _ = 0
 
--- those of customer frames alone
+-- the copies of customer frames that were refused in a step
 abbrev pub refusals : Step → ℕ
 refusals (Receive port item learnt outcome moved) = if is_some item.mark then refused_by outcome else 0
 refusals _ = 0
 
--- the customer frames and copies that bridges dropped
+-- the copies of customer frames that bridges refused
 abbrev pub refused : List (List Step) → ℕ
 refused bridges = sum_by (λ steps. sum_by refusals steps) bridges
 
@@ -83,10 +97,11 @@ losses _ = 0
 abbrev pub lost : List (List Step) → ℕ
 lost lanes = sum_by (λ steps. sum_by losses steps) lanes
 
--- the numbers of dropped and of lost frames
-abbrev pub counts_text : ℕ → ℕ → List ℕ
-counts_text refused lost = codes "; refused " ++ decimal refused ++ codes "; lost " ++ decimal lost ++ 10 ∷ []
+-- the numbers of dropped frames, refused copies and lost frames
+abbrev pub counts_text : ℕ → ℕ → ℕ → List ℕ
+counts_text dropped refused lost =
+    codes "; dropped " ++ decimal dropped ++ codes "; refused " ++ decimal refused ++ codes "; lost " ++ decimal lost ++ 10 ∷ []
 
--- the summary: where frames were delivered, how many were dropped, and how many were lost
+-- the summary: where frames were delivered, and how many were dropped, refused and lost
 abbrev pub summary_line : Plan → Record → List ℕ
-summary_line plan rec = left_text (left_words plan rec) ++ counts_text (refused rec.bridges) (lost rec.lanes)
+summary_line plan rec = left_text (left_words plan rec) ++ counts_text (dropped rec.bridges) (refused rec.bridges) (lost rec.lanes)

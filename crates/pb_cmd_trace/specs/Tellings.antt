@@ -15,6 +15,7 @@ use Rattle.pb_lan.specs.declared.step.Outcome.TheVariants.{Relayed, Filtered, He
 use Rattle.pb_lan.specs.declared.step.Place.TheVariants.{Bridge, Lane, Customer}
 use Rattle.pb_lan.specs.declared.step.Step.{Step}
 use Rattle.pb_lan.specs.declared.step.Step.TheVariants.{Poll as Polled, Feed as Fed, Deliver as Delivered, Receive as Received, Transmit as Transmitted, Tick as Ticked, Admin as Administered, Take as Took, Put as Put_on}
+use Rattle.pb_messages.specs.Reasons.{reason_word}
 use Rattle.pb_names.specs.Names.{bridge_name, link_name, port_name}
 use Rattle.pb_names.specs.Places.{customer_at}
 use Rattle.pb_step_script.specs.Answers.{step_line}
@@ -82,10 +83,10 @@ learnt_words (Some Full) = codes ", table full"
 learnt_words (Some Group) = codes ", source is a group address"
 learnt_words (Some Memory) = codes ", source not learnt"
 
--- why a relayed frame is sent at these ports; without a port it is dropped
+-- why a relayed frame is sent at these ports; without a port it is dropped, and the reason follows
 abbrev pub way_word : Plan → ℕ → List Step → ℕ → List ℕ → List ℕ → List ℕ
 way_word plan bridge steps port wire chosen =
-    if length chosen == 0 then codes ", no egress port" else (if is_known plan bridge steps port wire then codes ", known" else codes ", flooded")
+    if length chosen == 0 then [] else (if is_known plan bridge steps port wire then codes ", known" else codes ", flooded")
 
 -- why a received frame is sent at its ports
 abbrev pub way_words : Plan → ℕ → List Step → ℕ → List ℕ → Outcome → List ℕ
@@ -127,10 +128,27 @@ direction_word lane = if lane % 2 == 1 then codes " ab" else codes " ba"
 abbrev pub lane_words : Plan → ℕ → List ℕ
 lane_words plan lane = link_name plan ((lane + 1) / 2) ++ direction_word lane
 
+-- the line of a drop reason
+abbrev pub drop_line : List ℕ → List ℕ
+drop_line reason = codes "dropped: " ++ reason ++ 10 ∷ []
+
+-- why the bridge dropped the frame of a step, or at which ports it queued copies
+abbrev pub outcome_line : Plan → ℕ → Step → Outcome → List ℕ
+outcome_line plan bridge step (Filtered reason) = drop_line (reason_word reason)
+outcome_line plan bridge step (Relayed chosen refused) =
+    if length chosen == 0 then drop_line (codes "no-port") else step_line plan (Bridge bridge) step
+outcome_line plan bridge step Heard = step_line plan (Bridge bridge) step
+
+-- what the bridge did with a frame that it received
+abbrev pub result_line : Plan → ℕ → Step → List ℕ
+result_line plan bridge (Received port item learnt outcome moved) =
+    outcome_line plan bridge (Received port item learnt outcome moved) outcome
+result_line plan bridge step = step_line plan (Bridge bridge) step
+
 -- the line of a bridge that received a frame
 abbrev pub receiving_line : Plan → ℕ → ℕ → List Step → Step → List ℕ
 receiving_line plan bridge port steps step =
-    indent (hops_of step) ++ receipt_words plan bridge port steps step ++ codes ": " ++ step_line plan (Bridge bridge) step
+    indent (hops_of step) ++ receipt_words plan bridge port steps step ++ codes ": " ++ result_line plan bridge step
 
 -- the line of a bridge that sent a frame
 abbrev pub transmission_line : Plan → ℕ → ℕ → Step → List ℕ

@@ -108,7 +108,7 @@ fn way_word(
     ensures { result.now ≡ way_word plan.now bridge steps.now port wire.now chosen.now }
 {
     if chosen.is_empty() {
-        return ", no egress port";
+        return "";
     }
     if is_known(plan, bridge, steps, port, wire) {
         ", known"

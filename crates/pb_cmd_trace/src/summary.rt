@@ -4,8 +4,9 @@ ghost use Rattle.std.specs.Prelude.{◌≡◌, ◌≤◌, ◌*◌, ◌^◌, ◌+
 ghost use Rattle.std.specs.List.{list_any};
 ghost use Rattle.pb_lan.specs.Plans.{IsSound};
 ghost use Rattle.pb_lan.specs.Records.{steps_of};
-ghost use Rattle.pb_cmd_trace.specs.Summaries.{counts_text, is_delivery, left_text, left_word, left_words, losses};
-ghost use Rattle.pb_cmd_trace.specs.Summaries.{lost, refusals, refused, refused_by, summary_line};
+ghost use Rattle.pb_cmd_trace.specs.Summaries.{counts_text, dropped, drops, drops_frame, is_delivery, left_text};
+ghost use Rattle.pb_cmd_trace.specs.Summaries.{left_word, left_words, losses, lost, refusals, refused, refused_by};
+ghost use Rattle.pb_cmd_trace.specs.Summaries.{summary_line};
 
 use crate::round::steps_of;
 use pb_frame::{Memory, Seq};
@@ -49,19 +50,64 @@ fn put_all_left(out: &mut String, plan: &Plan, rec: &Record) -> Result<(), Memor
     Ok(())
 }
 
-/// Returns how many copies were dropped: 1 for a filtered frame, or the number of chosen ports that got no copy.
+/// Checks whether a frame was dropped, for a reason or as there was no port for it.
+fn drops_frame(outcome: &Outcome) -> bool
+    ensures { result ≡ drops_frame outcome.now }
+{
+    match outcome {
+        Outcome::Relayed { chosen, .. } => chosen.list().as_slice().is_empty(),
+        Outcome::Filtered(_) => true,
+        Outcome::Heard => false,
+    }
+}
+
+/// Returns how many customer frames a step dropped: 1 or 0.
+fn drops(step: &Step) -> u8
+    ensures exact { result ≡ drops step.now }
+    ensures few { result ≤ 1 }
+{
+    match step {
+        Step::Receive { item, outcome, .. } if item.mark.is_some() && drops_frame(outcome) => 1,
+        _ => 0,
+    }
+}
+
+/// Returns how many customer frames a bridge dropped.
+fn dropped_at(steps: &[Step]) -> u128
+    ensures exact { result ≡ sum_by drops steps.now }
+    ensures few { result ≤ 2 ^ 64 }
+{
+    let mut sum = 0;
+    for step in steps {
+        sum += u128::from(drops(step));
+    }
+    sum
+}
+
+/// Returns how many customer frames all bridges dropped.
+fn dropped(places: &[Seq<Step>]) -> u128
+    requires { length places.now ≤ 128 }
+    ensures { result ≡ dropped places.now }
+{
+    let mut sum = 0;
+    for steps in places {
+        sum += dropped_at(steps.as_slice());
+    }
+    sum
+}
+
+/// Returns how many chosen ports got no copy.
 fn refused_by(outcome: &Outcome) -> u8
     ensures exact { result ≡ refused_by outcome.now }
     ensures few { result ≤ 16 }
 {
     match outcome {
         Outcome::Relayed { refused, .. } => refused.list().as_slice().len() as u8,
-        Outcome::Filtered(_) => 1,
-        Outcome::Heard => 0,
+        Outcome::Filtered(_) | Outcome::Heard => 0,
     }
 }
 
-/// Returns how many customer frames, or copies of one, a step dropped.
+/// Returns how many copies of a customer frame a step refused.
 fn refusals(step: &Step) -> u8
     ensures exact { result ≡ refusals step.now }
     ensures few { result ≤ 16 }
@@ -72,7 +118,7 @@ fn refusals(step: &Step) -> u8
     }
 }
 
-/// Returns how many customer frames and copies a bridge dropped.
+/// Returns how many copies of customer frames a bridge refused.
 fn refused_at(steps: &[Step]) -> u128
     ensures exact { result ≡ sum_by refusals steps.now }
     ensures few { result ≤ 16 * 2 ^ 64 }
@@ -84,7 +130,7 @@ fn refused_at(steps: &[Step]) -> u128
     sum
 }
 
-/// Returns how many customer frames and copies all bridges dropped.
+/// Returns how many copies of customer frames all bridges refused.
 fn refused(places: &[Seq<Step>]) -> u128
     requires { length places.now ≤ 128 }
     ensures { result ≡ refused places.now }
@@ -143,16 +189,16 @@ fn put_where(out: &mut String, names: &str) -> Result<(), Memory>
     Ok(())
 }
 
-/// Appends how many frames and copies were dropped, and how many were lost.
-fn put_counts(out: &mut String, refused: u128, lost: u128) -> Result<(), Memory>
-    ensures { OnOk result (string_bytes out.new ≡ string_bytes out.old ++ counts_text refused lost) }
+/// Appends how many frames were dropped, how many copies were refused, and how many frames were lost.
+fn put_counts(out: &mut String, dropped: u128, refused: u128, lost: u128) -> Result<(), Memory>
+    ensures { OnOk result (string_bytes out.new ≡ string_bytes out.old ++ counts_text dropped refused lost) }
 {
-    writeln!(out, "; refused {refused}; lost {lost}")?;
+    writeln!(out, "; dropped {dropped}; refused {refused}; lost {lost}")?;
     Ok(())
 }
 
-/// Appends the summary: the customer ports at which frames were delivered, how many frames and copies bridges dropped,
-/// and how many frames lanes lost.
+/// Appends the summary: the customer ports at which frames were delivered, how many frames bridges dropped, how many
+/// copies they refused, and how many frames lanes lost.
 pub(crate) fn put_summary(
     alloc: Global,
     out: &mut String,
@@ -167,7 +213,7 @@ pub(crate) fn put_summary(
     let mut names = String::new(alloc);
     put_all_left(&mut names, plan, rec)?;
     put_where(out, names.as_str())?;
-    let refused = refused(rec.bridges.as_slice());
+    let bridges = rec.bridges.as_slice();
     let lost = lost(rec.lanes.as_slice());
-    put_counts(out, refused, lost)
+    put_counts(out, dropped(bridges), refused(bridges), lost)
 }

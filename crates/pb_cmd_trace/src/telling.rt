@@ -2,15 +2,17 @@
 
 ghost use Rattle.std.specs.Prelude.{◌≡◌, ◌++◌, string_bytes, OnOk};
 ghost use Rattle.pb_cmd_trace.specs.Tellings.{added_word, delivery_line, direction_word, entry_line, hops_of, indent};
-ghost use Rattle.pb_cmd_trace.specs.Tellings.{lane_words, receiving_line, sending_words, spaces, tag_by, tag_words};
-ghost use Rattle.pb_cmd_trace.specs.Tellings.{taking_line, told, transmission_line};
+ghost use Rattle.pb_cmd_trace.specs.Tellings.{drop_line, lane_words, receiving_line, result_line, sending_words};
+ghost use Rattle.pb_cmd_trace.specs.Tellings.{spaces, tag_by, tag_words, taking_line, told, transmission_line};
+ghost use Rattle.pb_messages.specs.Reasons.{reason_word};
 
 use crate::names::neighbour;
 use crate::onward::Onward;
 use crate::receipt::{put_receipt, tag_text};
 use crate::stations::has_service_tag;
 use pb_frame::{Memory, hex_text};
-use pb_lan::{Item, Place, Plan, Step};
+use pb_lan::{Item, Outcome, Place, Plan, Reason, Step};
+use pb_messages::put_reason;
 use pb_names::{bridge_name, customer_at, link_name, port_name};
 use pb_step_script::put_done;
 use std::alloc::Global;
@@ -129,6 +131,39 @@ fn put_lane(out: &mut String, plan: &Plan, lane: u8) -> Result<(), Memory>
     Ok(())
 }
 
+/// Appends the line of a drop reason.
+fn put_drop(out: &mut String, reason: Reason) -> Result<(), Memory>
+    ensures { OnOk result (string_bytes out.new ≡ string_bytes out.old ++ drop_line (reason_word reason)) }
+{
+    out.push_str("dropped: ")?;
+    put_reason(out, reason)?;
+    out.push_str("\n")?;
+    Ok(())
+}
+
+/// Appends what a bridge did with a frame that it received: the drop reason, or the ports at which it queued copies.
+fn put_result(
+    alloc: Global,
+    out: &mut String,
+    plan: &Plan,
+    bridge: u8,
+    step: &Step,
+) -> Result<(), Memory>
+    ensures { OnOk result (string_bytes out.new ≡ string_bytes out.old ++ result_line plan.now bridge step.now) }
+{
+    if let Step::Receive { outcome, .. } = step {
+        match outcome {
+            Outcome::Filtered(reason) => return put_drop(out, *reason),
+            Outcome::Relayed { chosen, .. } if chosen.list().as_slice().is_empty() => {
+                out.push_str("dropped: no-port\n")?;
+                return Ok(());
+            }
+            Outcome::Relayed { .. } | Outcome::Heard => (),
+        }
+    }
+    put_done(alloc, out, plan, Place::Bridge(bridge), step)
+}
+
 /// Appends the line of a frame that a bridge received.
 fn put_receiving(
     alloc: Global,
@@ -145,7 +180,7 @@ fn put_receiving(
     put_indent(out, step)?;
     put_receipt(alloc, out, plan, bridge, port, steps, step)?;
     out.push_str(": ")?;
-    put_done(alloc, out, plan, Place::Bridge(bridge), step)
+    put_result(alloc, out, plan, bridge, step)
 }
 
 /// Appends the line of a frame that a bridge sent.

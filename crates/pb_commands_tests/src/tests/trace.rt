@@ -102,7 +102,7 @@ in 02000000010102000000020208004344: polled C2 0
     B1 1 from L1, red vid 100 priority 0, source learnt, known: relayed 2
       B1 2 to C1, tag removed
       C1: delivered 02000000010102000000020208004344
-delivered at C1 C2; refused 0; lost 0
+delivered at C1 C2; dropped 0; refused 0; lost 0
 ";
 
 /// A priority tag is removed, and its priority counts. Then a frame to its own sender.
@@ -115,19 +115,19 @@ in ffffffffffff02000000010188a8a00008004142: polled C1 0
       B2 2 to C2, tag removed
       C2: delivered ffffffffffff02000000010108004142
 in 02000000010102000000010108004142: polled C1 1
-  B1 2 from C1, red vid 100 priority 0, source known, no egress port: relayed
-delivered at C2; refused 0; lost 0
+  B1 2 from C1, red vid 100 priority 0, source known: dropped: no-port
+delivered at C2; dropped 1; refused 0; lost 0
 ";
 
 /// A tag with a VID, an address that no bridge relays, and too few octets.
 const REFUSED: &str = "\
 in ffffffffffff02000000010188a8006408004142: polled C1 0
-  B1 2 from C1, red vid 100 priority 0: filtered s-tagged
+  B1 2 from C1, red vid 100 priority 0: dropped: s-tagged
 in 0180c200000302000000010108004142: polled C1 1
-  B1 2 from C1, red vid 100 priority 0: filtered reserved-3
+  B1 2 from C1, red vid 100 priority 0: dropped: reserved-3
 in 01: polled C1 2
-  B1 2 from C1, red vid 100 priority 0: filtered malformed
-not delivered; refused 3; lost 0
+  B1 2 from C1, red vid 100 priority 0: dropped: malformed
+not delivered; dropped 3; refused 0; lost 0
 ";
 
 /// A service that the far end of the link does not serve.
@@ -136,8 +136,8 @@ in ffffffffffff02000000010108004142: polled C1 0
   B1 2 from C1, red vid 100 priority 3, source learnt, flooded: relayed 1
     B1 1 to L1, tag 88a86064 added
     L1 ab: taken 0
-    B2 1 from L1, red vid 100 priority 3: filtered not-member
-not delivered; refused 1; lost 0
+    B2 1 from L1, red vid 100 priority 3: dropped: not-member
+not delivered; dropped 1; refused 0; lost 0
 ";
 
 /// The second item is lost.
@@ -153,7 +153,7 @@ in ffffffffffff02000000010108004142: polled sender 1
   Near 2 from sender, line vid 100 priority 0, source known, flooded: relayed 1
     Near 1 to fibre, tag 88a80064 added
     fibre ab: lost 1
-delivered at receiver; refused 0; lost 1
+delivered at receiver; dropped 0; refused 0; lost 1
 ";
 
 /// Customers at one bridge: no tag, and a source that moves.
@@ -170,10 +170,10 @@ in ffffffffffff02000000010108004142: polled C2 0
     C1: delivered ffffffffffff02000000010108004142
     B1 3 to C3
     C3: delivered ffffffffffff02000000010108004142
-delivered at C1 C2 C3; refused 0; lost 0
+delivered at C1 C2 C3; dropped 0; refused 0; lost 0
 ";
 
-/// A broadcast goes both ways round the metro ring, and is filtered at the Discarding port.
+/// A broadcast goes both ways round the metro ring, and is dropped at the Discarding port.
 const METRO: &str = "\
 in ffffffffffff02000000010108000001: polled provider 0
   Centre 3 from provider, internet vid 100 priority 0, source learnt, flooded: relayed 1 2
@@ -185,7 +185,7 @@ in ffffffffffff02000000010108000001: polled provider 0
       Lakeside 2 from ring2, internet vid 100 priority 0, source learnt, flooded: relayed 1 3
         Lakeside 1 to ring3, tag 88a80064
         ring3 ab: taken 0
-        Station 2 from ring3, internet vid 100 priority 0: filtered not-forwarding
+        Station 2 from ring3, internet vid 100 priority 0: dropped: not-forwarding
         Lakeside 3 to shop, tag removed
         shop: delivered ffffffffffff02000000010108000001
     Centre 2 to ring6, tag 88a80064 added
@@ -196,10 +196,10 @@ in ffffffffffff02000000010108000001: polled provider 0
       Airport 1 from ring5, internet vid 100 priority 0, source learnt, flooded: relayed 2 3
         Airport 2 to ring4, tag 88a80064
         ring4 ba: taken 0
-        Station 1 from ring4, internet vid 100 priority 0, source learnt, no egress port: relayed
+        Station 1 from ring4, internet vid 100 priority 0, source learnt: dropped: no-port
         Airport 3 to hotel, tag removed
         hotel: delivered ffffffffffff02000000010108000001
-delivered at shop hotel; refused 1; lost 0
+delivered at shop hotel; dropped 2; refused 0; lost 0
 ";
 
 /// Bridges that run the protocol converge first: the second link is Discarding at its far end.
@@ -214,15 +214,15 @@ in ffffffffffff02000000010108004142: polled C1 0
       C2: delivered ffffffffffff02000000010108004142
     B1 3 to L2, tag 88a80064 added
     L2 ab: taken 6
-    B2 3 from L2, red vid 100 priority 0: filtered not-forwarding
-delivered at C2; refused 1; lost 0
+    B2 3 from L2, red vid 100 priority 0: dropped: not-forwarding
+delivered at C2; dropped 1; refused 0; lost 0
 ";
 
 /// Before the first tick no port to another bridge is Forwarding.
 const UNSETTLED: &str = "\
 in ffffffffffff02000000010108004142: polled C1 0
-  B1 2 from C1, red vid 100 priority 0, source learnt, no egress port: relayed
-not delivered; refused 0; lost 0
+  B1 2 from C1, red vid 100 priority 0, source learnt: dropped: no-port
+not delivered; dropped 1; refused 0; lost 0
 ";
 
 #[test]
@@ -303,7 +303,7 @@ fn frames_are_told_hop_by_hop(rt: HostRuntime) -> Result<(), Fail> {
             &[],
             None,
             TraceEnd::Told,
-            "not delivered; refused 0; lost 0\n",
+            "not delivered; dropped 0; refused 0; lost 0\n",
         ),
     ];
     tells(&rt, rt.alloc(), ROWS)
@@ -365,7 +365,9 @@ fn a_frame_that_goes_round_is_told_so(rt: HostRuntime) -> Result<(), Fail> {
         let told = run_trace(alloc, plan.as_bytes(), &asked_of(&entries), &mut output);
         assert_eq!(rt; told, Ok(TraceEnd::Told));
         let text = std::str::from_utf8(output.as_slice()).unwrap_or("");
-        let end = format!(in alloc; "{ROUND}not delivered; refused {refused}; lost 0\n")?;
+        let end = format!(in alloc;
+            "{ROUND}not delivered; dropped 0; refused {refused}; lost 0\n"
+        )?;
         assert_eq!(rt;
             lines_and_end(text, end.as_str()),
             (2 + 249 * 3 + 2 + 2, true),

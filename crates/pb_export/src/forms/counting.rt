@@ -126,6 +126,9 @@ const DROPPED: &[Slot] = slots![
     ("reason", Kind::OneOf(REASONS), ""),
 ];
 
+/// The customers' frames that a run left in its network.
+const TRANSIT: &[Slot] = slots![("in_transit", Kind::Number, ""),];
+
 /// The bridges have not converged.
 const UNSETTLED: &[Slot] = slots![("what", Kind::OneOf(CONVERGENCE), ""),];
 
@@ -161,6 +164,7 @@ const RUN_LINES: &[Template] = &[
     template!("losses", "bridge ", UNLEARNT),
     template!("losses", "", UNSETTLED),
     template!("drops", "bridge ", DROPPED),
+    template!("", "frames in transit: ", TRANSIT),
     template!("paths", "error: port ", PORT_PATH),
     template!("paths", "error: cannot ", CONTROL_PATH),
     template!("warnings", "warning: ", WARNING),

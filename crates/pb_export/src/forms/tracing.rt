@@ -26,15 +26,14 @@ const SOURCES: &[Choice] = choices![
 const WAYS: &[Choice] = choices![
     (", known", Said::Word("known")),
     (", flooded", Said::Word("flooded")),
-    (", no egress port", Said::Word("no egress port")),
     ("", Said::Nothing),
 ];
 
 /// The frame was relayed.
 const RELAYED: &[Choice] = choices![("relayed", Said::Word("relayed")),];
 
-/// The frame was filtered.
-const FILTERED: &[Choice] = choices![("filtered ", Said::Word("filtered")),];
+/// The frame was dropped.
+const DROPPED: &[Choice] = choices![("dropped: ", Said::Word("dropped")),];
 
 /// The frame has no tag.
 const BARE: &[Choice] = choices![("untagged", Said::Yes),];
@@ -76,8 +75,8 @@ macro_rules! relayed {
     };
 }
 
-/// The slots of a frame that a bridge received and filtered, with these slots for its tag.
-macro_rules! filtered {
+/// The slots of a frame that a bridge received and dropped, with these slots for its tag.
+macro_rules! dropped {
     ($($tag:tt),+) => {
         slots![
             ("depth", Kind::Depth, ""),
@@ -88,7 +87,7 @@ macro_rules! filtered {
             $($tag),+,
             ("source", Kind::OneOf(SOURCES), ""),
             ("way", Kind::OneOf(WAYS), ": "),
-            ("outcome", Kind::OneOf(FILTERED), ""),
+            ("outcome", Kind::OneOf(DROPPED), ""),
             ("reason", Kind::Text, ""),
         ]
     };
@@ -115,8 +114,8 @@ const SERVICE_RELAYED: &[Slot] = relayed![
     ("priority", Kind::Number, "")
 ];
 
-/// A frame of a service that was filtered.
-const SERVICE_FILTERED: &[Slot] = filtered![
+/// A frame of a service that was dropped.
+const SERVICE_DROPPED: &[Slot] = dropped![
     ("service", Kind::Text, " vid "),
     ("vid", Kind::Number, " priority "),
     ("priority", Kind::Number, "")
@@ -130,8 +129,8 @@ const TAGGED_RELAYED: &[Slot] = relayed![
     ("tag_taken_off", Kind::Text, " removed")
 ];
 
-/// A frame that was filtered, and whose priority tag was removed.
-const TAGGED_FILTERED: &[Slot] = filtered![
+/// A frame that was dropped, and whose priority tag was removed.
+const TAGGED_DROPPED: &[Slot] = dropped![
     ("service", Kind::Text, " vid "),
     ("vid", Kind::Number, " priority "),
     ("priority", Kind::Number, ", tag "),
@@ -141,8 +140,8 @@ const TAGGED_FILTERED: &[Slot] = filtered![
 /// An untagged frame from a link that was relayed.
 const UNTAGGED_RELAYED: &[Slot] = relayed![("untagged", Kind::OneOf(BARE), "")];
 
-/// An untagged frame from a link that was filtered.
-const UNTAGGED_FILTERED: &[Slot] = filtered![("untagged", Kind::OneOf(BARE), "")];
+/// An untagged frame from a link that was dropped.
+const UNTAGGED_DROPPED: &[Slot] = dropped![("untagged", Kind::OneOf(BARE), "")];
 
 /// A bridge sent a frame without its tag.
 const SENT_BARE: &[Slot] = sent![", tag ", ("tag", Kind::OneOf(TAKEN_OFF), "")];
@@ -195,7 +194,8 @@ const ROUND: &[Slot] = slots![
 
 /// The summary of all frames.
 const SUMMARY: &[Slot] = slots![
-    ("left_at", Kind::Words, "; refused "),
+    ("left_at", Kind::Words, "; dropped "),
+    ("dropped", Kind::Number, "; refused "),
     ("refused", Kind::Number, "; lost "),
     ("lost", Kind::Number, ""),
 ];
@@ -212,11 +212,11 @@ const LINES: &[Template] = &[
     NAMED_PLAN_FAULT,
     PLAN_FAULT,
     template!("hops", "", SERVICE_RELAYED),
-    template!("hops", "", SERVICE_FILTERED),
+    template!("hops", "", SERVICE_DROPPED),
     template!("hops", "", TAGGED_RELAYED),
-    template!("hops", "", TAGGED_FILTERED),
+    template!("hops", "", TAGGED_DROPPED),
     template!("hops", "", UNTAGGED_RELAYED),
-    template!("hops", "", UNTAGGED_FILTERED),
+    template!("hops", "", UNTAGGED_DROPPED),
     template!("hops", "", SENT_BARE),
     template!("hops", "", SENT_FIRST),
     template!("hops", "", SENT_ON),

@@ -33,7 +33,8 @@ const ACCEPTED: &str =
 const LOST: &str =
     "ended drained\nport C1: 3 frames not written\nbridge B2 port 1: 2571 copies not queued: full\n\
     bridge B2 port 1: 4 BPDUs not queued: memory\nbridge B2: 17 sources not learnt: full\n\
-    bridge B2 port 3: 6 frames dropped: not-member\nbridge B2 port 3: 2 frames dropped: no-port\nbridges not converged\n\
+    bridge B2 port 3: 6 frames dropped: not-member\nbridge B2 port 3: 2 frames dropped: no-port\n\
+    bridges not converged\n\
     error: port C1: write out/a.pcap: also the plan file\nerror: port C2: cannot read in.pcap: it is a pcapng file\n\
     error: cannot create control socket out/net: File exists\nwarning: 1 event did not take place\nhint: convert it\n";
 
@@ -101,8 +102,8 @@ pub(super) const RUNS: &[Said] = &[
     },
     Said {
         text: "port C1 entered 18446744073709551615 left 0 filtered 007\n",
-        json: r#"{"ports": [], "links": [], "loops": [], "port_faults": [], "losses": [], "drops": [], "paths": [], "warnings": [],
-            "other": ["port C1 entered 18446744073709551615 left 0 filtered 007"]}"#,
+        json: r#"{"ports": [], "links": [], "loops": [], "port_faults": [], "losses": [], "drops": [], "paths": [],
+            "warnings": [], "other": ["port C1 entered 18446744073709551615 left 0 filtered 007"]}"#,
     },
     Said {
         text: "port C1 entered 18446744073709551615 left 0 filtered 7\nfault: spawn\n",
@@ -140,11 +141,12 @@ pub(super) const TRACES: &[Said] = &[
         text: "settled yes ticks 3\n\
             in ffff: polled C1 0\n  B1 2 from C1, red vid 100 priority 5, tag 88a80000 removed, source learnt, \
             flooded: relayed 1 3 full 4 memory 5\n    B1 1 to L1, tag 88a80064 added\n    L1 ab: taken 0\n    B2 1 \
-            from L1, no service vid 9 priority 0: filtered not-member\n    L2 ba: lost 7\n\
-            in ffff: polled C2 1\n  B1 3 from L3, untagged, table full, no egress port: relayed\n  B1 4 to L4, tag \
+            from L1, no service vid 9 priority 0: dropped: not-member\n    L2 ba: lost 7\n\
+            in ffff: polled C2 1\n  B1 3 from L3, untagged, table full: dropped: no-port\n  B1 4 to L4, tag \
             88a80064\n  B1 2 to C3, tag removed\n  B1 2 to C4\n  C3: delivered ffff\nother events 2\n\
-            delivered at C3 C4; refused 1; lost 1\n",
-        json: r#"{"settled": true, "ticks": 3, "others": 2, "left_at": ["C3", "C4"], "refused": 1, "lost": 1,
+            delivered at C3 C4; dropped 2; refused 1; lost 1\n",
+        json: r#"{"settled": true, "ticks": 3, "others": 2, "left_at": ["C3", "C4"], "dropped": 2,
+            "refused": 1, "lost": 1,
             "frames": [
             {"frame": "ffff", "port": "C1", "number": 0, "hops": [
                 {"depth": 1, "event": "received", "bridge": "B1", "port": 2, "from": "C1", "service": "red", "vid": 100,
@@ -153,21 +155,20 @@ pub(super) const TRACES: &[Said] = &[
                 {"depth": 2, "event": "sent", "bridge": "B1", "port": 1, "to": "L1", "tag": "88a80064", "put_on": true},
                 {"depth": 2, "event": "taken", "link": "L1", "direction": "ab", "number": 0},
                 {"depth": 2, "event": "received", "bridge": "B2", "port": 1, "from": "L1", "service": "no service",
-                    "vid": 9, "priority": 0, "outcome": "filtered", "reason": "not-member"},
+                    "vid": 9, "priority": 0, "outcome": "dropped", "reason": "not-member"},
                 {"depth": 2, "event": "lost", "link": "L2", "direction": "ba", "number": 7}]},
             {"frame": "ffff", "port": "C2", "number": 1, "hops": [
                 {"depth": 1, "event": "received", "bridge": "B1", "port": 3, "from": "L3", "untagged": true,
-                    "source": "table full", "way": "no egress port", "outcome": "relayed", "relayed_to": [],
-                    "no_room": []},
+                    "source": "table full", "outcome": "dropped", "reason": "no-port"},
                 {"depth": 1, "event": "sent", "bridge": "B1", "port": 4, "to": "L4", "tag": "88a80064"},
                 {"depth": 1, "event": "sent", "bridge": "B1", "port": 2, "to": "C3", "tag": "removed"},
                 {"depth": 1, "event": "sent", "bridge": "B1", "port": 2, "to": "C4"},
                 {"depth": 1, "event": "delivered", "port": "C3", "frame": "ffff"}]}]}"#,
     },
     Said {
-        text: "loops over L1 L2; ended after 1000 events\nnot delivered; refused 0; lost 0\n",
-        json: r#"{"frames": [], "goes_round_over": ["L1", "L2"], "events": 1000, "left_at": [], "refused": 0,
-            "lost": 0}"#,
+        text: "loops over L1 L2; ended after 1000 events\nnot delivered; dropped 0; refused 0; lost 0\n",
+        json: r#"{"frames": [], "goes_round_over": ["L1", "L2"], "events": 1000, "left_at": [], "dropped": 0,
+            "refused": 0, "lost": 0}"#,
     },
 ];
 

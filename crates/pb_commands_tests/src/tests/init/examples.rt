@@ -94,7 +94,8 @@ service = "red"
 # port only reads one, a record port only writes one, and a socket port exchanges frames over a Unix
 # socket. The file to read must exist, and a peer must listen. With listen in place of path the port
 # creates the socket. With stay = true another peer may follow one that has left. A plan has at most 128
-# customer ports.
+# customer ports. With replay = "times", which needs tick_ms, the frames of a file enter as far apart as
+# their times are, divided by speed.
 
 #[[port]]
 #name = "capture"

@@ -14,7 +14,7 @@ in ffffffffffff02000000010108004142: polled C1 0
     B2 3 from L2, red vid 100 priority 0, source learnt, flooded: relayed 2
       B2 2 to C2, tag removed
       C2: delivered ffffffffffff02000000010108004142
-delivered at C2; refused 0; lost 0
+delivered at C2; dropped 0; refused 0; lost 0
 ";
 
 /// The bridges have ticked once. They are prompt: L1 forwards already, but convergence takes two ticks in a row.
@@ -29,25 +29,25 @@ in ffffffffffff02000000010108004142: polled C1 0
       C2: delivered ffffffffffff02000000010108004142
     B1 3 to L2, tag 88a80064 added
     L2 ab: taken 4
-    B2 3 from L2, red vid 100 priority 0: filtered not-forwarding
-delivered at C2; refused 1; lost 0
+    B2 3 from L2, red vid 100 priority 0: dropped: not-forwarding
+delivered at C2; dropped 1; refused 0; lost 0
 ";
 
 /// The plan gives the states, and the only link is disabled at B1.
 const CUT_OFF: &str = "\
 in ffffffffffff02000000010108004142: polled C1 0
-  B1 2 from C1, red vid 100 priority 0, source learnt, no egress port: relayed
-not delivered; refused 0; lost 0
+  B1 2 from C1, red vid 100 priority 0, source learnt: dropped: no-port
+not delivered; dropped 1; refused 0; lost 0
 ";
 
-/// The only link is disabled at B2 alone: B1 sends a copy, and B2 filters it.
+/// The only link is disabled at B2 alone: B1 sends a copy, and B2 drops it.
 const HALF_CUT_OFF: &str = "\
 in ffffffffffff02000000010108004142: polled C1 0
   B1 2 from C1, red vid 100 priority 0, source learnt, flooded: relayed 1
     B1 1 to L1, tag 88a80064 added
     L1 ab: taken 0
-    B2 1 from L1, red vid 100 priority 0: filtered not-forwarding
-not delivered; refused 1; lost 0
+    B2 1 from L1, red vid 100 priority 0: dropped: not-forwarding
+not delivered; dropped 1; refused 0; lost 0
 ";
 
 /// The names to disable, and the row.
