@@ -1,1 +1,1 @@
-pub mod ZipLemmas
+pub mod ItemLemmas

@@ -1,8 +1,8 @@
 use Rattle.std.proofs.Common.{◌<◌, ◌≤◌, ◌+◌, ◌∷◌, [], ◌++◌, min, length, drop, get_or, ap, ◌∙◌, sym, arith}
 use Rattle.std.specs.List.{zip}
-use Rattle.pb_cmd_survive.proofs.ListLemmas.{zip_there, zip_past}
+use Rattle.pb_names.proofs.ZipLemmas.{zip_there, zip_past}
 use Rattle.pb_cmd_diff.specs.Effects.{change_of}
-use Rattle.pb_plan_diff.proofs.ZipLemmas.{items_more}
+use Rattle.pb_plan_diff.proofs.ItemLemmas.{items_more}
 use Rattle.pb_cmd_diff.proofs.ItemLemmas.{items_end}
 use Rattle.pb_cmd_diff.proofs.effect.changes_of.Goals as goal
 

@@ -1,7 +1,7 @@
 use Rattle.std.proofs.Common.{◌<◌, ◌≤◌, ◌+◌, ◌∷◌, min, length, drop, get_or, string_bytes, ap, ◌∙◌, sym, arith}
 use Rattle.std.specs.List.{zip}
 use Rattle.pb_cmd_survive.specs.AcceptedTexts.{view_table}
-use Rattle.pb_cmd_survive.proofs.ListLemmas.{zip_there, zip_past, text_more, text_end}
+use Rattle.pb_names.proofs.ZipLemmas.{zip_there, zip_past, text_more, text_end}
 use Rattle.pb_cmd_survive.proofs.tables.put_view_tables.Goals as goal
 
 pub loop-place-preserved : goal.loop-place-preserved

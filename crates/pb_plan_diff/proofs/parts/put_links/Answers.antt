@@ -1,6 +1,6 @@
 use Rattle.std.proofs.Common.{◌≡◌, suc, ◌<◌, ◌+◌, ◌∷◌, [], ◌++◌, length, drop, drop-cons, ap, ◌∙◌, sym, subst, arith}
 use Rattle.pb_plan_diff.specs.Parts.{link_part}
-use Rattle.pb_plan_diff.proofs.ZipLemmas.{items_more}
+use Rattle.pb_plan_diff.proofs.ItemLemmas.{items_more}
 use Rattle.pb_plan_diff.proofs.parts.put_links.Goals as goal
 
 pub loop-link-preserved : goal.loop-link-preserved
