@@ -1,8 +1,6 @@
 """The known weaknesses: what an attack that finds one reports as known, and not as wrong."""
 
 WEAKNESSES = {
-    "memory as a plan error": "an allocation that fails while a plan is built ends with `plan: 11 memory` and "
-    "status 1, as if the plan were refused, and not with `fault: memory` and status 3",
     "many errors": "`check --all` of a plan with 100,000 errors is not over "
     "after a minute: the time grows with the square of their number",
     "file size": "a capture that reaches the limit of `ulimit -f` ends the program itself by SIGXFSZ, without a report, "
@@ -17,6 +15,4 @@ WEAKNESSES = {
     "half a megabyte takes 15 seconds of processor time",
     "trees that do not converge": "`tree` of bridges that do not converge keeps what they did: 100 kB a tick of 32 "
     "bridges, 1.2 GB after 10,000 ticks",
-    "control characters of a path": "standard error has a control character of the plan file's path unescaped if the "
-    "file cannot be opened",
 }

@@ -58,7 +58,7 @@ def spaces(part):
                     why = memory.wrong_run(room, ended, whole)
                 elif not why:
                     why = memory.wrong_verdict(room, ended, whole)
-                part.judge("limits, address space", why, room, ended, memory.weakness_of(ended))
+                part.judge("limits, address space", why, room, ended)
 
 
 def wrong_opening(room, ended, before):

@@ -8,6 +8,8 @@ import common
 from hostile_parts import frames
 from hostile_parts.attack import PLAIN, PROGRAM, crash
 
+# What a command prints if an allocation failed: while a plan was read, and otherwise.
+LACKS = ("plan: 11 memory\nfault: memory", "fault: memory")
 TITLES = "down,name,other,settled,ticks,forest,accepted"
 SOURCE = common.TOP / "scripts" / "refuse.c"
 BROADCAST = "ffffffffffff02000000010108004142"
@@ -70,13 +72,7 @@ def is_memory(ended):
     text = ended.out.decode("utf-8", "replace").strip()
     # (a table has no place for a fault)
     is_table = b"csv" in b" ".join(map(os.fsencode, ended.words)) and text in ("", TITLES)
-    return ended.status == 3 and (text == "fault: memory" or is_table or '"fault": "memory"' in text)
-
-
-def weakness_of(ended):
-    """Returns the known weakness that an end shows, or None."""
-    is_plan = ended.status == 1 and (ended.out == b"plan: 11 memory\n" or b'"fault": "memory"' in ended.out)
-    return "memory as a plan error" if is_plan else None
+    return ended.status == 3 and (text in LACKS or is_table or '"fault": "memory"' in text)
 
 
 def wrong_verdict(_, ended, whole):
@@ -134,7 +130,7 @@ def sweep(part, kind, words, check, setting):
                 ended.words = ["env", *names, *map(os.fspath, ended.words)]
                 if why:
                     room.write("given", given)
-                part.judge(f"memory, {kind}", why, room, ended, weakness_of(ended))
+                part.judge(f"memory, {kind}", why, room, ended)
 
 
 def requests_of(room, library, words, given):

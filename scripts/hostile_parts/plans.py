@@ -118,7 +118,7 @@ def paths(part):
                     why = "standard error does not give the cause"
                 is_raw = not why and path != "" and any(it < 32 for it in ended.err.rstrip(b"\n"))
                 why = "standard error has a control character of the path" if is_raw else why
-                part.judge("plans, odd paths", why, room, ended, "control characters of a path" if is_raw else None)
+                part.judge("plans, odd paths", why, room, ended)
 
 
 def pipes(part):

@@ -1,1 +1,2 @@
 pub mod CaretLemmas
+pub mod PrintedLemmas

@@ -5,3 +5,4 @@ pub mod Marks
 pub mod Places
 pub mod Texts
 pub mod Nearest
+pub mod PrintedLines

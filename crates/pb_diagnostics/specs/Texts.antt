@@ -1,15 +1,18 @@
 -- The printed form of an error.
-use Rattle.std.specs.Prelude.{ℕ, suc, zero, ◌-◌, ◌==◌, List, [], ◌∷◌, ◌++◌, codes, take, string_bytes, Option, Some, None, if◌then◌else◌}
+use Rattle.std.specs.Prelude.{ℕ, suc, zero, ◌-◌, ◌==◌, ◌||◌, nat_lt, List, [], ◌∷◌, ◌++◌, codes, take, string_bytes, Option, Some, None, if◌then◌else◌}
 use Rattle.std.specs.Fmt.{decimal}
 use Rattle.std.specs.List.{flat_map}
 use Rattle.std.specs.Option.{option_map_or}
+use Rattle.pb_printable.specs.Printable.{printable}
 use Rattle.pb_diagnostics.specs.Places.{is_first_octet}
 use Rattle.pb_diagnostics.specs.declared.place.Place.{Place}
 use Rattle.pb_diagnostics.specs.declared.diagnostic.Diagnostic.{Diagnostic}
 
--- a space for a character, and a tab for a tab
+-- a space for each character of the escape of an octet, or for the character that it begins
 abbrev pub pad : ℕ → List ℕ
-pad b = if b == 9 then 9 ∷ [] else if is_first_octet b then 32 ∷ [] else []
+pad b =
+    if b == 9 || b == 10 || b == 13 then codes "  " else if nat_lt b 32 || b == 127 then codes "      "
+    else if is_first_octet b then codes " " else []
 
 -- so many carets
 abbrev pub carets : ℕ → List ℕ
@@ -18,24 +21,24 @@ carets (suc n) = 94 ∷ carets n
 
 -- the path of a file, with line and column
 abbrev pub location : List ℕ → Option Place → List ℕ
-location path None = path ++ codes ": "
-location path (Some p) = path ++ codes ":" ++ decimal p.line ++ codes ":" ++ decimal p.column ++ codes ": "
+location path None = printable path ++ codes ": "
+location path (Some p) = printable path ++ codes ":" ++ decimal p.line ++ codes ":" ++ decimal p.column ++ codes ": "
 
 -- the text of a line, and carets under some of its octets
 abbrev pub excerpt_of : List ℕ → ℕ → ℕ → List ℕ
 excerpt_of [] column width = []
 excerpt_of (b ∷ bs) column width =
-    codes "    " ++ (b ∷ bs) ++ 10 ∷ codes "    " ++ flat_map pad (take (column - 1) (b ∷ bs)) ++ carets width ++ 10 ∷ []
+    codes "    " ++ printable (b ∷ bs) ++ 10 ∷ codes "    " ++ flat_map pad (take (column - 1) (b ∷ bs)) ++ carets width ++ 10 ∷ []
 
 abbrev pub excerpt : Place → List ℕ
 excerpt p = excerpt_of (string_bytes p.text) p.column p.width
 
 -- the line of a hint
 abbrev pub hint_line : List ℕ → List ℕ
-hint_line hint = codes "hint: " ++ hint ++ 10 ∷ []
+hint_line hint = codes "hint: " ++ printable hint ++ 10 ∷ []
 
 -- the text of an error in the file at a path
 abbrev pub diagnostic_text : List ℕ → Diagnostic → List ℕ
 diagnostic_text path d =
-    location path d.place ++ string_bytes d.message ++ 10 ∷ option_map_or excerpt d.place []
+    location path d.place ++ printable (string_bytes d.message) ++ 10 ∷ option_map_or excerpt d.place []
     ++ option_map_or (λ hint. hint_line (string_bytes hint)) d.hint []

@@ -2,9 +2,12 @@
 
 ghost use Rattle.std.specs.Prelude.{◌≡◌, ◌++◌, string_bytes, option_copied, OnOk};
 ghost use Rattle.std.specs.List.{flat_map};
+ghost use Rattle.pb_printable.specs.Printable.{printable, IsOneLine};
 ghost use Rattle.pb_diagnostics.specs.Texts.{pad, carets, location, excerpt, hint_line, diagnostic_text};
+ghost use Rattle.pb_diagnostics.specs.PrintedLines.{ArePrintedLines};
 
 use crate::place::{Place, is_first_octet};
+use pb_printable::put_printable;
 use std::alloc::AllocError;
 
 /// An error in a file.
@@ -18,16 +21,35 @@ pub struct Diagnostic {
     pub hint: Option<String>,
 }
 
-/// Appends a space for each character of a text, and a tab for each tab.
+/// Appends a text with its control characters escaped.
+fn put_text(out: &mut String, text: &str) -> Result<(), AllocError>
+    ensures { OnOk result (string_bytes out.new ≡ string_bytes out.old ++ printable text.now) }
+{
+    match put_printable(out, text) {
+        Ok(()) => Ok(()),
+        Err(_) => Err(AllocError),
+    }
+}
+
+/// Returns a space for each character that is printed for an octet: for those of the escape of a control character of
+/// ASCII, or for the first octet of any other character.
+fn padding_of(octet: u8) -> &'static str
+    ensures { result.now ≡ pad octet }
+{
+    match octet {
+        b'\t' | b'\n' | b'\r' => "  ",
+        0..=31 | 127 => "      ",
+        _ if is_first_octet(octet) => " ",
+        _ => "",
+    }
+}
+
+/// Appends as many spaces as a text has characters when it is printed.
 fn put_padding(out: &mut String, text: &[u8]) -> Result<(), AllocError>
     ensures { OnOk result (string_bytes out.new ≡ string_bytes out.old ++ flat_map pad text.now) }
 {
     for octet in text {
-        if *octet == b'\t' {
-            out.push_str("\t")?;
-        } else if is_first_octet(*octet) {
-            out.push_str(" ")?;
-        }
+        out.push_str(padding_of(*octet))?;
     }
     Ok(())
 }
@@ -44,17 +66,20 @@ fn put_carets(out: &mut String, count: usize) -> Result<(), AllocError>
 }
 
 /// Appends the path of a file with line and column, if there are some.
+#[tactic(auto, using(crate::proofs::PrintedLemmas::place_printed, crate::proofs::PrintedLemmas::path_printed))]
 fn put_location(out: &mut String, path: &str, place: Option<&Place>) -> Result<(), AllocError>
-    ensures { OnOk result (string_bytes out.new ≡ string_bytes out.old
+    ensures text { OnOk result (string_bytes out.new ≡ string_bytes out.old
         ++ location path.now (option_copied place.entry)) }
+    ensures printed { OnOk result (IsOneLine (location path.now (option_copied place.entry))) }
 {
+    put_text(out, path)?;
     match place {
         Some(place) => {
             let line = place.line;
             let column = place.column;
-            write!(out, "{path}:{line}:{column}: ")?;
+            write!(out, ":{line}:{column}: ")?;
         }
-        None => write!(out, "{path}: ")?,
+        None => out.push_str(": ")?,
     }
     Ok(())
 }
@@ -67,7 +92,9 @@ fn put_excerpt(out: &mut String, place: &Place) -> Result<(), AllocError>
     if text.is_empty() {
         return Ok(());
     }
-    write!(out, "    {text}\n    ")?;
+    out.push_str("    ")?;
+    put_text(out, text)?;
+    out.push_str("\n    ")?;
     let before = place.column.saturating_sub(1).min(text.len());
     put_padding(out, &text.as_bytes()[..before])?;
     put_carets(out, place.width)?;
@@ -79,27 +106,33 @@ fn put_excerpt(out: &mut String, place: &Place) -> Result<(), AllocError>
 fn put_hint(out: &mut String, hint: &str) -> Result<(), AllocError>
     ensures { OnOk result (string_bytes out.new ≡ string_bytes out.old ++ hint_line hint.now) }
 {
-    writeln!(out, "hint: {hint}")?;
+    out.push_str("hint: ")?;
+    put_text(out, hint)?;
+    out.push_str("\n")?;
     Ok(())
 }
 
 /// Appends the text of an error in the file at a path.
 ///
 /// The first line is `PATH:LINE:COLUMN: MESSAGE`. The next ones are the line of the file, and carets under its octets;
-/// both are indented by four spaces. The last one is `hint: HINT`, if there is a hint.
+/// both are indented by four spaces. The last one is `hint: HINT`, if there is a hint. Control characters of all these
+/// are escaped: each is one line.
 ///
 /// # Errors
 ///
 /// `AllocError` if an allocation failed.
+#[tactic(auto, using(crate::proofs::PrintedLemmas::diagnostic_lines))]
 pub fn put_diagnostic(
     out: &mut String,
     path: &str,
     diagnostic: &Diagnostic,
 ) -> Result<(), AllocError>
-    ensures { OnOk result (string_bytes out.new ≡ string_bytes out.old ++ diagnostic_text path.now diagnostic.now) }
+    ensures text { OnOk result (string_bytes out.new ≡ string_bytes out.old
+        ++ diagnostic_text path.now diagnostic.now) }
+    ensures lines { OnOk result (ArePrintedLines (diagnostic_text path.now diagnostic.now)) }
 {
     put_location(out, path, diagnostic.place.as_ref())?;
-    out.push_str(diagnostic.message.as_str())?;
+    put_text(out, diagnostic.message.as_str())?;
     out.push_str("\n")?;
     if let Some(place) = &diagnostic.place {
         put_excerpt(out, place)?;

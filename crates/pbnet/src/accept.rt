@@ -2,6 +2,7 @@
 
 ghost use Rattle.pb_lan.specs.Plans.{IsSound};
 
+use crate::messages::complain;
 use crate::refusal::print_fault;
 use crate::telling::{WRONG_ARGUMENTS, tell_on};
 use crate::{REFUSED, contents};
@@ -11,7 +12,6 @@ use pb_frame::Text;
 use pb_lan::Plan;
 use pb_messages::CommandFault;
 use pb_plan_spans::{Spot, spot_of};
-use pb_printable::put_printable;
 use pb_report::write_refusal;
 use pb_service::{PlanFault, read_plan};
 use std::alloc::{AllocError, Global};
@@ -48,15 +48,6 @@ fn place_words(alloc: Global, spot: Option<Spot>) -> Result<String, AllocError> 
     match spot {
         Some(spot) => format!(in alloc; " at {spot}"),
         None => Ok(String::new(alloc)),
-    }
-}
-
-/// Returns a text with its control characters escaped.
-fn printable(alloc: Global, text: &str) -> Result<String, AllocError> {
-    let mut printed = String::new(alloc);
-    match put_printable(&mut printed, text) {
-        Ok(()) => Ok(printed),
-        Err(_) => Err(AllocError),
     }
 }
 
@@ -116,8 +107,8 @@ fn report_unknown(
     let place = place_words(rt.alloc(), spot)?;
     let hint = suggestion_words(rt.alloc(), plan, part, name)?;
     let word = part_word(part);
-    let name = printable(rt.alloc(), name)?;
-    let _ = eprintln!(rt; "error: {path}: no {word} named \"{name}\"{place}{hint}");
+    let message = format!(in rt.alloc(); "error: {path}: no {word} named \"{name}\"{place}{hint}")?;
+    complain(rt, Ok(message));
     Ok(())
 }
 
@@ -133,9 +124,8 @@ fn report_rule(
     spot: Option<Spot>,
 ) -> Result<(), AllocError> {
     let place = place_words(rt.alloc(), spot)?;
-    let text = format!(in rt.alloc(); "{fault}")?;
-    let text = printable(rt.alloc(), text.as_str())?;
-    let _ = eprintln!(rt; "error: {path}: {text}{place}");
+    let message = format!(in rt.alloc(); "error: {path}: {fault}{place}")?;
+    complain(rt, Ok(message));
     Ok(())
 }
 
@@ -224,8 +214,10 @@ pub(crate) fn acceptances_of<R: Files + Eprint + AllocGlobal, W: Write>(
     beside: Option<&String>,
     out: &mut W,
 ) -> Result<Vec<Acceptance>, AcceptEnd> {
-    let Ok((plan, _ports)) = read_plan(rt.alloc(), file) else {
-        return Ok(Vec::new(rt.alloc()));
+    let plan = match read_plan(rt.alloc(), file) {
+        Ok((plan, _ports)) => plan,
+        Err(PlanFault::Memory) => return Err(AcceptEnd::Told(tell_on(out, CommandFault::Memory))),
+        Err(_) => return Ok(Vec::new(rt.alloc())),
     };
     let mut acceptances = match read_acceptances(rt.alloc(), &plan, file) {
         Ok(acceptances) => acceptances,

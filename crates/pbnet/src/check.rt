@@ -5,11 +5,13 @@ ghost use Rattle.std.specs.Process.{exit_status};
 
 use crate::contents;
 use crate::formatted::{Output, head};
+use crate::messages::printable;
 use crate::refusal::{print_errors, put_error_rows};
 use crate::telling::tell_on;
 use pb_cli::{CheckOptions, ReportFormat};
 use pb_cmd_check::{run_check, run_settled_check};
 use pb_export::CHECK;
+use pb_frame::Memory;
 use pb_messages::CommandFault;
 use pb_warning_lines::put_warnings;
 use std::alloc::Global;
@@ -36,6 +38,21 @@ pub(crate) fn check<R: Files + Print + Eprint + AllocGlobal>(
     out.end(&CHECK, None, status)
 }
 
+/// Appends the warnings about the plan file at a path, whose control characters are escaped. Returns their number.
+///
+/// # Errors
+///
+/// `Memory` if an allocation failed.
+fn put_warnings_at(
+    alloc: Global,
+    warnings: &mut String,
+    path: &str,
+    file: &[u8],
+) -> Result<usize, Memory> {
+    let path = printable(alloc, path)?;
+    put_warnings(alloc, warnings, path.as_str(), file)
+}
+
 /// Validates a plan file, writes the report, and prints the warnings on standard error. Returns the exit status.
 fn check_on<R: Files + Eprint + AllocGlobal, W: Write>(
     rt: &R,
@@ -48,7 +65,7 @@ fn check_on<R: Files + Eprint + AllocGlobal, W: Write>(
         Err(status) => return status,
     };
     let mut warnings = String::new(rt.alloc());
-    let Ok(count) = put_warnings(rt.alloc(), &mut warnings, path, file.as_slice()) else {
+    let Ok(count) = put_warnings_at(rt.alloc(), &mut warnings, path, file.as_slice()) else {
         return tell_on(out, CommandFault::Memory);
     };
     match report_on(rt.alloc(), options, file.as_slice(), out) {

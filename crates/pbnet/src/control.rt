@@ -1,5 +1,6 @@
 //! The command `control`.
 
+use crate::messages::complain;
 use crate::telling::{WRONG_ARGUMENTS, tell};
 use pb_cli::ControlOptions;
 use pb_cmd_control::{ControlFault, command_lines, converse};
@@ -70,38 +71,59 @@ fn talk<R: Input + Print + AllocGlobal>(
 }
 
 /// Reports that no run can be reached at a path. Returns the exit status 3.
-fn unreachable_at(rt: &(impl Print + Eprint), path: &str, error: &io::Error) -> ExitCode {
+fn unreachable_at(
+    rt: &(impl Print + Eprint + AllocGlobal),
+    path: &str,
+    error: &io::Error,
+) -> ExitCode {
     let status = tell(rt, "path");
-    let _ = match error.kind() {
+    match error.kind() {
         ErrorKind::NotFound | ErrorKind::ConnectionRefused => {
-            eprintln!(rt;
-                "error: cannot connect to {path}: no run listens there\n\
-                 hint: start one by `pbnet run FILE --control {path}`"
-            )
+            complain(
+                rt,
+                format!(in rt.alloc(); "error: cannot connect to {path}: no run listens there"),
+            );
+            complain(
+                rt,
+                format!(in rt.alloc(); "hint: start one by `pbnet run FILE --control {path}`"),
+            );
         }
-        _ => eprintln!(rt; "error: cannot connect to {path}: {error}"),
-    };
+        _ => complain(
+            rt,
+            format!(in rt.alloc(); "error: cannot connect to {path}: {error}"),
+        ),
+    }
     status
 }
 
 /// Returns the exit status of a conversation. Reports on standard error if a command was refused, with a hint, and if
 /// the run disconnected.
-fn ended(rt: &(impl Print + Eprint), path: &str, outcome: Result<u8, ControlFault>) -> ExitCode {
+fn ended(
+    rt: &(impl Print + Eprint + AllocGlobal),
+    path: &str,
+    outcome: Result<u8, ControlFault>,
+) -> ExitCode {
     match outcome {
         Ok(0) => ExitCode::SUCCESS,
         Ok(status) => {
+            complain(
+                rt,
+                format!(in rt.alloc(); "error: {path}: the run refused a command"),
+            );
             let _ = eprintln!(rt;
-                "error: {path}: the run refused a command\n\
-                 hint: the commands are stop, counts, tree, drops, help, down NAME and up NAME; NAME is a link, a bridge \
-                 or BRIDGE:PORT, and tree lists each BRIDGE with its PORTs"
+                "hint: the commands are stop, counts, tree, drops, stations BRIDGE, help, down NAME and up NAME; \
+                 NAME is a link, a bridge or BRIDGE:PORT, and tree lists each BRIDGE with its PORTs"
             );
             ExitCode::from(status)
         }
         Err(fault) => {
             let status = tell(rt, fault);
             if fault == ControlFault::HungUp {
-                let _ = eprintln!(rt;
-                    "error: {path}: the run disconnected before it answered every command"
+                complain(
+                    rt,
+                    format!(in rt.alloc();
+                        "error: {path}: the run disconnected before it answered every command"
+                    ),
                 );
             }
             status

@@ -2,6 +2,7 @@
 
 ghost use Rattle.pb_lan.specs.Plans.{IsSound};
 
+use crate::messages::complain;
 use crate::telling::WRONG_ARGUMENTS;
 use pb_cli::TraceFrame;
 use pb_frame::{Mac, Memory, Tci, hex_text};
@@ -47,7 +48,7 @@ fn refused() -> NoFrame {
 /// # Errors
 ///
 /// The end of the command, after a message, if the text is none of these.
-fn destination_of(rt: &impl Eprint, plan: &Plan, text: &str) -> Result<Mac, NoFrame>
+fn destination_of(rt: &(impl Eprint + AllocGlobal), plan: &Plan, text: &str) -> Result<Mac, NoFrame>
     requires { IsSound plan.now }
 {
     if text == "broadcast" {
@@ -58,8 +59,11 @@ fn destination_of(rt: &impl Eprint, plan: &Plan, text: &str) -> Result<Mac, NoFr
     }
     match port_named(plan, text) {
         0 => {
-            let _ = eprintln!(rt;
-                "error: --to: \"{text}\" is not an address, a customer port or broadcast"
+            complain(
+                rt,
+                format!(in rt.alloc();
+                    "error: --to: \"{text}\" is not an address, a customer port or broadcast"
+                ),
             );
             Err(refused())
         }
@@ -72,7 +76,11 @@ fn destination_of(rt: &impl Eprint, plan: &Plan, text: &str) -> Result<Mac, NoFr
 /// # Errors
 ///
 /// The end of the command, after a message, if `--to` is refused.
-fn to_of(rt: &impl Eprint, plan: &Plan, described: &TraceFrame) -> Result<Mac, NoFrame>
+fn to_of(
+    rt: &(impl Eprint + AllocGlobal),
+    plan: &Plan,
+    described: &TraceFrame,
+) -> Result<Mac, NoFrame>
     requires { IsSound plan.now }
 {
     match &described.to {
@@ -87,15 +95,22 @@ fn to_of(rt: &impl Eprint, plan: &Plan, described: &TraceFrame) -> Result<Mac, N
 /// # Errors
 ///
 /// The end of the command, after a message, if `--from` is no address.
-fn from_of(rt: &impl Eprint, port: u8, described: &TraceFrame) -> Result<Mac, NoFrame> {
+fn from_of(
+    rt: &(impl Eprint + AllocGlobal),
+    port: u8,
+    described: &TraceFrame,
+) -> Result<Mac, NoFrame> {
     let Some(text) = &described.from else {
         return Ok(station_of(port));
     };
     match address_of(text.as_str()) {
         Some(address) => Ok(address),
         None => {
-            let _ = eprintln!(rt;
-                "error: --from: \"{text}\" is not an address like 02-00-00-00-01-01"
+            complain(
+                rt,
+                format!(in rt.alloc();
+                    "error: --from: \"{text}\" is not an address like 02-00-00-00-01-01"
+                ),
             );
             Err(refused())
         }
@@ -125,7 +140,10 @@ fn customer_of(rt: &impl Eprint, described: &TraceFrame) -> Result<Option<Tci>, 
 /// # Errors
 ///
 /// The end of the command, after a message, if `--ethertype` is refused.
-fn content_of(rt: &impl Eprint, described: &TraceFrame) -> Result<Content, NoFrame> {
+fn content_of(
+    rt: &(impl Eprint + AllocGlobal),
+    described: &TraceFrame,
+) -> Result<Content, NoFrame> {
     if described.bpdu {
         return Ok(Content::Bpdu);
     }
@@ -135,7 +153,10 @@ fn content_of(rt: &impl Eprint, described: &TraceFrame) -> Result<Content, NoFra
     match ethertype_of(text.as_str()) {
         Ok(number) => Ok(Content::EtherType(number)),
         Err(fault) => {
-            let _ = eprintln!(rt; "error: --ethertype: {text} is {fault}");
+            complain(
+                rt,
+                format!(in rt.alloc(); "error: --ethertype: {text} is {fault}"),
+            );
             Err(refused())
         }
     }
@@ -147,7 +168,7 @@ fn content_of(rt: &impl Eprint, described: &TraceFrame) -> Result<Content, NoFra
 ///
 /// The end of the command, after a message, if an option is refused.
 fn options_of(
-    rt: &impl Eprint,
+    rt: &(impl Eprint + AllocGlobal),
     plan: &Plan,
     port: &str,
     described: &TraceFrame,

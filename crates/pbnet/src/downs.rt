@@ -3,6 +3,7 @@
 ghost use Rattle.std.specs.Prelude.{◌≡◌};
 ghost use Rattle.std.specs.Process.{exit_status};
 
+use crate::messages::complain;
 use crate::telling::WRONG_ARGUMENTS;
 use pb_converge::{DownFault, suggestion};
 use pb_service::read_plan;
@@ -17,14 +18,15 @@ fn suggestion_in(alloc: Global, file: &[u8], name: &str) -> Option<String> {
 
 /// Reports that the plan of a file lacks a name, and the name that was probably meant.
 fn report_unknown(rt: &(impl Eprint + AllocGlobal), file: &[u8], name: &str) {
-    let _ = match suggestion_in(rt.alloc(), file, name) {
+    let message = match suggestion_in(rt.alloc(), file, name) {
         Some(near) => {
-            eprintln!(rt;
+            format!(in rt.alloc();
                 "error: no link, bridge or port named \"{name}\"; did you mean \"{near}\"?"
             )
         }
-        None => eprintln!(rt; "error: no link, bridge or port named \"{name}\""),
+        None => format!(in rt.alloc(); "error: no link, bridge or port named \"{name}\""),
     };
+    complain(rt, message);
 }
 
 /// Reports on standard error why a name of `--down` is refused. Returns the exit status 2.

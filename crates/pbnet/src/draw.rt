@@ -1,9 +1,11 @@
 //! The command `draw`.
 
 use crate::downs::refuse_down;
+use crate::formatted::{Output, head};
+use crate::messages::complain;
 use crate::telling::{FAULT, WRONG_ARGUMENTS, tell};
 use crate::{REFUSED, contents, ended};
-use pb_cli::{DrawOptions, PictureFormat};
+use pb_cli::{DrawOptions, PictureFormat, ReportFormat};
 use pb_cmd_draw::{Asked, DrawEnd, Format, Rest, run_draw};
 use pb_messages::CommandFault;
 use std::fs::Files;
@@ -26,7 +28,8 @@ pub(crate) fn draw_network(
     options: &DrawOptions,
 ) -> ExitCode {
     let path = options.path.as_str();
-    let file = match contents(rt, path, &mut io::writer(rt)) {
+    let mut out = Output::new(rt, ReportFormat::Text, head("draw", path));
+    let file = match contents(rt, path, &mut out) {
         Ok(file) => file,
         Err(status) => return status,
     };
@@ -40,11 +43,12 @@ pub(crate) fn draw_network(
         format: format_of(options.format),
     };
     let drawn = match &options.output {
-        None => run_draw(rt.alloc(), file.as_slice(), &asked, &mut io::writer(rt)),
+        None => run_draw(rt.alloc(), file.as_slice(), &asked, &mut out),
         Some(output) => {
             let mut text = Vec::new(rt.alloc());
             let drawn = run_draw(rt.alloc(), file.as_slice(), &asked, &mut text);
-            if let Err(status) = put(rt, path, output.as_str(), &drawn, text.as_slice()) {
+            let text = text.as_slice();
+            if let Err(status) = put(rt, path, output.as_str(), &drawn, text, &mut out) {
                 return status;
             }
             drawn
@@ -53,7 +57,7 @@ pub(crate) fn draw_network(
     match drawn {
         Err(fault) => tell(rt, fault),
         Ok(DrawEnd::Drawn(rest)) => drawn_at(rt, rest),
-        Ok(DrawEnd::Refused) => ended(rt, path, file.as_slice(), REFUSED),
+        Ok(DrawEnd::Refused) => out.ended(ended(rt, path, file.as_slice(), REFUSED)),
         Ok(DrawEnd::NoDown(fault)) => refuse_down(rt, file.as_slice(), asked.downs, fault),
         Ok(DrawEnd::NoService) => no_service(rt, asked.service),
     }
@@ -67,21 +71,22 @@ fn is_one_file(rt: &impl Files, first: &str, second: &str) -> bool {
     }
 }
 
-/// Writes a picture to a file, or the refusal that replaces it to standard output.
+/// Writes a picture to a file, or the refusal that replaces it to the writer of reports.
 ///
 /// # Errors
 ///
 /// The exit status, after a message, if the file is the plan file, or cannot be opened or written.
-fn put(
+fn put<W: Write>(
     rt: &(impl Files + Print + Eprint + AllocGlobal),
     plan: &str,
     output: &str,
     drawn: &Result<DrawEnd, CommandFault>,
     text: &[u8],
+    out: &mut W,
 ) -> Result<(), ExitCode> {
     let written = match drawn {
         Ok(DrawEnd::Drawn(_)) => save(rt, plan, output, text)?,
-        _ => io::writer(rt).write_all(text),
+        _ => out.write_all(text),
     };
     written.map_err(|_| tell(rt, CommandFault::Write))
 }
@@ -92,14 +97,17 @@ fn put(
 ///
 /// The exit status, after a message: 2 if the file is the plan file, 3 if it cannot be opened.
 fn save(
-    rt: &(impl Files + Print + Eprint),
+    rt: &(impl Files + Print + Eprint + AllocGlobal),
     plan: &str,
     output: &str,
     text: &[u8],
 ) -> Result<io::Result<()>, ExitCode> {
     if is_one_file(rt, plan, output) {
-        let _ = eprintln!(rt;
-            "error: invalid value '{output}' for '--output <PATH>': it is the plan file"
+        complain(
+            rt,
+            format!(in rt.alloc();
+                "error: invalid value '{output}' for '--output <PATH>': it is the plan file"
+            ),
         );
         return Err(ExitCode::from(WRONG_ARGUMENTS));
     }
@@ -107,7 +115,10 @@ fn save(
         Ok(mut file) => Ok(file.write_all(text)),
         Err(e) => {
             let _ = println!(rt; "fault: path");
-            let _ = eprintln!(rt; "error: cannot open {output}: {e}");
+            complain(
+                rt,
+                format!(in rt.alloc(); "error: cannot open {output}: {e}"),
+            );
             Err(ExitCode::from(FAULT))
         }
     }
@@ -122,10 +133,13 @@ fn drawn_at(rt: &impl Eprint, rest: Rest) -> ExitCode {
 }
 
 /// Reports that the plan lacks the service of `--service`. Returns the exit status 2.
-fn no_service(rt: &impl Eprint, service: Option<&str>) -> ExitCode {
+fn no_service(rt: &(impl Eprint + AllocGlobal), service: Option<&str>) -> ExitCode {
     if let Some(name) = service {
-        let _ = eprintln!(rt;
-            "error: invalid value '{name}' for '--service <NAME>': no such service"
+        complain(
+            rt,
+            format!(in rt.alloc();
+                "error: invalid value '{name}' for '--service <NAME>': no such service"
+            ),
         );
     }
     ExitCode::from(WRONG_ARGUMENTS)

@@ -2,7 +2,7 @@
 
 ghost use Rattle.std.specs.Prelude.{◌≡◌};
 
-use crate::telling::FAULT;
+use crate::telling::{FAULT, tell_on};
 use pb_cli::{ReportFormat, VERSION};
 use pb_export::{Form, FormatFault, Head, Table, csv_of, json_of};
 use pb_messages::CommandFault;
@@ -10,6 +10,11 @@ use std::fmt::Display;
 use std::io::Write;
 use std::process::ExitCode;
 use std::{io, str};
+
+/// Returns whether a text is the line for a plan file that is refused because an allocation failed.
+fn is_memory_refusal(text: &[u8]) -> bool {
+    text == b"plan: 11 memory\n".as_slice()
+}
 
 /// Returns the members that the document of a command begins with, for the plan file at a path.
 pub(crate) fn head<'a>(command: &'a str, plan: &'a str) -> Head<'a>
@@ -34,6 +39,8 @@ pub(crate) struct Output<'a, R> {
     head: Head<'a>,
     /// The octets written so far, if the report becomes a document.
     kept: Vec<u8>,
+    /// Whether a plan file was refused because an allocation failed.
+    lacks_memory: bool,
 }
 
 impl<'a, R: Print + AllocGlobal> Output<'a, R> {
@@ -44,6 +51,7 @@ impl<'a, R: Print + AllocGlobal> Output<'a, R> {
             format,
             head,
             kept: Vec::new(rt.alloc()),
+            lacks_memory: false,
         }
     }
 
@@ -64,9 +72,19 @@ impl<'a, R: Print + AllocGlobal> Output<'a, R> {
         Ok(json.into_bytes())
     }
 
-    /// Prints the document of the report, if its form is not text. Returns the exit status of the command, or 3 if the
-    /// document cannot be made or printed.
-    pub(crate) fn end(self, form: &Form, table: Option<&Table>, status: ExitCode) -> ExitCode {
+    /// Returns the exit status of the command, or 3 after the line `fault: memory` if a plan file was refused because an
+    /// allocation failed.
+    pub(crate) fn ended(&mut self, status: ExitCode) -> ExitCode {
+        if self.lacks_memory {
+            return tell_on(self, CommandFault::Memory);
+        }
+        status
+    }
+
+    /// Prints the document of the report, if its form is not text. Returns the exit status of the command, or 3 if an
+    /// allocation failed, or if the document cannot be made or printed.
+    pub(crate) fn end(mut self, form: &Form, table: Option<&Table>, status: ExitCode) -> ExitCode {
+        let status = self.ended(status);
         if self.format == ReportFormat::Text {
             return status;
         }
@@ -91,6 +109,9 @@ impl<'a, R: Print + AllocGlobal> Output<'a, R> {
 
 impl<R: Print> Write for Output<'_, R> {
     fn write(&mut self, octets: &[u8]) -> io::Result<usize> {
+        if is_memory_refusal(octets) {
+            self.lacks_memory = true;
+        }
         match self.format {
             ReportFormat::Text => io::writer(self.rt).write(octets),
             ReportFormat::Json | ReportFormat::Csv => self.kept.write(octets),

@@ -16,6 +16,7 @@ mod draw;
 mod flat;
 mod formatted;
 mod looks;
+mod messages;
 mod noted;
 mod progress;
 mod refusal;
@@ -28,6 +29,7 @@ mod trees;
 
 use arguments::{arguments_of, refuse};
 use formatted::{Output, head};
+use messages::complain;
 use noted::Noted;
 use pb_cli::{CommandLine, InitNetwork, InitOptions, RunOptions, command_line_of};
 use pb_cmd_check::run_show;
@@ -112,7 +114,7 @@ fn contents<R: Files + Eprint + AllocGlobal, W: Write>(
         }
         Err(e) => {
             let status = tell_on(out, "path");
-            let _ = eprintln!(rt; "error: cannot open {path}: {e}");
+            complain(rt, format!(in rt.alloc(); "error: cannot open {path}: {e}"));
             return Err(status);
         }
     };
@@ -121,15 +123,18 @@ fn contents<R: Files + Eprint + AllocGlobal, W: Write>(
         Ok(_) if octets.len() as u64 <= MOST_OCTETS => Ok(octets),
         Ok(_) => {
             let status = tell_on(out, CommandFault::Read);
-            let _ = eprintln!(rt;
-                "error: cannot read {path}: it has more than {MOST_OCTETS} octets"
+            complain(
+                rt,
+                format!(in rt.alloc();
+                    "error: cannot read {path}: it has more than {MOST_OCTETS} octets"
+                ),
             );
             Err(status)
         }
         Err(e) if e.kind() == ErrorKind::OutOfMemory => Err(tell_on(out, CommandFault::Memory)),
         Err(e) => {
             let status = tell_on(out, CommandFault::Read);
-            let _ = eprintln!(rt; "error: cannot read {path}: {e}");
+            complain(rt, format!(in rt.alloc(); "error: cannot read {path}: {e}"));
             Err(status)
         }
     }

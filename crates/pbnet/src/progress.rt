@@ -81,8 +81,8 @@ impl<'a, R: Clock + Eprint> RunMonitor<'a, R> {
         }
     }
 
-    /// Reports how many frames entered, left and were dropped, how many copies could not be queued, and the ticks of the
-    /// clock.
+    /// Reports how many frames entered, left and were dropped, how many copies could not be queued, and the ticks of
+    /// the clock.
     fn show(&self) {
         let (entered, left) = (self.traffic.entered(), self.traffic.left());
         let (dropped, refused) = (self.traffic.dropped(), self.traffic.refused());

@@ -3,6 +3,7 @@
 use pb_diagnostics::{Diagnostic, put_diagnostic};
 use pb_frame::Memory;
 use pb_plan_errors::{fault_error, plan_error, plan_errors};
+use pb_printable::put_printable;
 use pb_service::PlanFault;
 use std::alloc::Global;
 
@@ -66,8 +67,9 @@ fn put_row(rows: &mut String, path: &str, error: &Diagnostic) -> Result<(), Memo
         let column = place.column;
         write!(rows, "{line}:{column}: ")?;
     }
+    put_printable(rows, path)?;
     let message = error.message.as_str();
-    write!(rows, "{path}\t{message}")?;
+    write!(rows, "\t{message}")?;
     if let Some(hint) = &error.hint {
         write!(rows, "\t{hint}")?;
     }

@@ -3,6 +3,7 @@
 use crate::described::{NoFrame, described_hex};
 use crate::downs::refuse_down;
 use crate::formatted::{Output, head};
+use crate::messages::complain;
 use crate::telling::{WRONG_ARGUMENTS, tell_on};
 use crate::{REFUSED, contents, ended};
 use pb_cli::{TraceEntry, TraceOptions};
@@ -10,7 +11,7 @@ use pb_cmd_trace::{Asked, Entry, TraceEnd, run_trace};
 use pb_export::TRACE;
 use pb_lan::Spanning;
 use pb_messages::CommandFault;
-use pb_service::read_plan;
+use pb_service::{PlanFault, read_plan};
 use std::alloc::{AllocError, Global};
 use std::fs::Files;
 use std::io::Write;
@@ -42,12 +43,17 @@ fn describe_first(
     options: &TraceOptions,
     entries: &mut Vec<Entry>,
 ) -> Result<(), NoFrame> {
-    if let (Some(described), Ok((plan, _ports))) = (&options.frame, read_plan(rt.alloc(), file)) {
-        if let Some(entry) = entries.first_mut() {
+    let (Some(described), Some(entry)) = (&options.frame, entries.first_mut()) else {
+        return Ok(());
+    };
+    match read_plan(rt.alloc(), file) {
+        Ok((plan, _ports)) => {
             entry.hex = described_hex(rt, &plan, entry.port.as_str(), described)?;
+            Ok(())
         }
+        Err(PlanFault::Memory) => Err(NoFrame::Memory),
+        Err(_) => Ok(()),
     }
-    Ok(())
 }
 
 /// Reports that no frame gets far, if the bridges of the plan of a file run the spanning tree and have not converged.
@@ -127,24 +133,30 @@ fn given_by(index: usize, first: &'static str) -> &'static str {
 }
 
 /// Reports that the plan lacks the customer port of a frame. Returns the exit status 2.
-fn no_port(rt: &impl Eprint, entries: &[Entry], index: usize) -> ExitCode {
+fn no_port(rt: &(impl Eprint + AllocGlobal), entries: &[Entry], index: usize) -> ExitCode {
     if let Some(entry) = entries.get(index) {
         let port = entry.port.as_str();
         let argument = given_by(index, "<PORT>");
-        let _ = eprintln!(rt;
-            "error: invalid value '{port}' for '{argument}': no such customer port"
+        complain(
+            rt,
+            format!(in rt.alloc();
+                "error: invalid value '{port}' for '{argument}': no such customer port"
+            ),
         );
     }
     ExitCode::from(WRONG_ARGUMENTS)
 }
 
 /// Reports that the digits of a frame are invalid. Returns the exit status 2.
-fn no_frame(rt: &impl Eprint, entries: &[Entry], index: usize) -> ExitCode {
+fn no_frame(rt: &(impl Eprint + AllocGlobal), entries: &[Entry], index: usize) -> ExitCode {
     if let Some(entry) = entries.get(index) {
         let hex = entry.hex.as_str();
         let argument = given_by(index, "<HEX>");
-        let _ = eprintln!(rt;
-            "error: invalid value '{hex}' for '{argument}': not pairs of hexadecimal digits"
+        complain(
+            rt,
+            format!(in rt.alloc();
+                "error: invalid value '{hex}' for '{argument}': not pairs of hexadecimal digits"
+            ),
         );
     }
     ExitCode::from(WRONG_ARGUMENTS)
