@@ -51,6 +51,8 @@ const PLAN_KEYS: &str =
   kind                    "memory", "capture", "record", "replay" or "socket" [default: "memory"]
   in                      "memory": the frames that enter, hexadecimal texts [default: []]
   read                    "capture", "replay": the path of the capture to read
+  replay                  "capture", "replay": "times": frames enter by their times; needs tick_ms [default: at once]
+  speed                   "capture", "replay": divides the distances of these times [default: 1] [range: 1-1000]
   write                   "capture", "record": the path of the capture to write
   stamp                   "capture", "record": times of records, "ticks" or "time" [default: "ticks"]
   path                    "socket": the path of the socket to which the port connects

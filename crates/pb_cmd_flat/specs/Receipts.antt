@@ -5,7 +5,7 @@ use Rattle.pb_lan.specs.declared.step.Outcome.{Outcome}
 use Rattle.pb_lan.specs.declared.step.Outcome.TheVariants.{Relayed, Filtered, Heard}
 use Rattle.pb_frame.specs.declared.reason.Reason.TheVariants.{Memory as want_of_memory}
 use Rattle.pb_lan.specs.declared.step.Step.{Step}
-use Rattle.pb_lan.specs.declared.step.Step.TheVariants.{Receive}
+use Rattle.pb_lan.specs.declared.step.Step.TheVariants.{Receive, Transmit}
 
 -- a frame entered at a port, with this outcome
 pub record Receipt : Type 0 where
@@ -27,7 +27,9 @@ IsClearOutcome (Relayed chosen refused) = refused ≡ []
 IsClearOutcome (Filtered reason) = reason ≢ want_of_memory
 IsClearOutcome Heard = Unit {0}
 
--- the step reports no failed allocation and no refused copy
+-- the step received a frame, with no failed allocation and no refused copy, or sent one: no clock ticked, and no port
+-- was enabled or disabled
 abbrev pub IsClear : Step → Type 0
 IsClear (Receive port item learnt outcome moved) = (learnt ≢ Some not_learnt) × IsClearOutcome outcome
-IsClear _ = Unit {0}
+IsClear (Transmit port item) = Unit {0}
+IsClear _ = ⊥

@@ -19,7 +19,7 @@ pub record SwitchView : Type 0 where
 abbrev pub IsReadyAt : ℕ → SwitchView → Type 0
 IsReadyAt ports switch = (switch.is_ready ≡ true) × (switch.ports ≡ ports)
 
--- the steps are a lawful past of the bridge, without failed allocations
+-- the steps are a lawful past of the bridge: it received and sent frames and did nothing else, and no allocation failed
 pub record IsFlatPast (ports : ℕ) (steps : List Step) : Type 0 where
   pub lawful : IsLawfulBridge spanning_tree (flat_plan ports) 1 steps
   pub clear : AllByRecursion IsClear steps
