@@ -133,7 +133,10 @@ fn frames_that_are_not_written_are_told(rt: HostRuntime) -> Result<(), Fail> {
     enter(&rt, rt.process())?;
     make(&rt, &[("full.in", NO_FRAMES)])?;
     let mut output = Sheet::front(b"ended drained\nport C1 entered 3 left 0 filtered 0\n");
-    let mut errors = Sheet::whole(b"port C2: 3 frames not written\n");
+    let mut errors = Sheet::whole(
+        b"error: port C2: write /dev/full: No space left on device (os error 28)\n\
+          port C2: 3 frames not written\n",
+    );
     let told = run(&rt, rt.alloc(), ["", FULL], PLAIN, &mut output, &mut errors)?;
     let came = (told.result, output.is_right(), errors.is_right());
     assert_eq!(rt; came, (Ok(0), true, true));

@@ -1,7 +1,7 @@
 //! Reports of runs over memory.
 
 use super::plans::{LOSSY, NEVER, NO_TURN, ONE_STEP, RSTP, SET_DOWN, UNLISTED};
-use super::{PLAIN, Row, Told, check, check_under, run};
+use super::{PLAIN, Row, Told, check_under, run};
 use pb_cmd_run::{NetworkFault, Strictness};
 use pb_fakes::plans::PAIR;
 use pb_fakes::{Full, Unflushed};
@@ -65,7 +65,7 @@ const ROWS: &[(Row, u8)] = &[
 #[test]
 fn runs_over_memory_are_reported(rt: HostRuntime) -> Result<(), Fail> {
     for (row, _) in ROWS {
-        check(&rt, rt.alloc(), row)?;
+        check_under(&rt, rt.alloc(), row, Strictness::Lenient, remarks_on(row))?;
     }
     Ok(())
 }
@@ -135,6 +135,15 @@ fn bridges_that_have_not_settled_are_told(rt: HostRuntime) -> Result<(), Fail> {
     )
 }
 
+/// Returns the remarks on a row's network. The run that ends at its limit leaves one frame in the network.
+fn remarks_on(row: &Row) -> &'static str {
+    if row.report.starts_with("ended limit") {
+        "frames in transit: 1\n"
+    } else {
+        ""
+    }
+}
+
 /// Returns the same run, with the status of a strict one.
 fn strictly(row: &Row, status: u8) -> Row {
     Row {
@@ -150,7 +159,8 @@ fn strictly(row: &Row, status: u8) -> Row {
 fn strict_runs_have_a_status_of_their_own(rt: HostRuntime) -> Result<(), Fail> {
     for (row, status) in ROWS {
         let row = strictly(row, *status);
-        check_under(&rt, rt.alloc(), &row, Strictness::Strict, "")?;
+        let remarks = remarks_on(&row);
+        check_under(&rt, rt.alloc(), &row, Strictness::Strict, remarks)?;
     }
     let row = strictly(&UNSETTLED, 4);
     check_under(&rt, rt.alloc(), &row, Strictness::Strict, UNSETTLED_LINES)
