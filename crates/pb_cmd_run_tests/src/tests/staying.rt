@@ -27,7 +27,7 @@ const SENT: &[u8] = b"\0\x10\xff\xff\xff\xff\xff\xff\x02\0\0\0\x01\x02\x08\0CD";
 /// The frame that waits for the first peer, after its length.
 const WANTED: &[u8; 18] = b"\0\x10\xff\xff\xff\xff\xff\xff\x02\0\0\0\x01\x01\x08\0AB";
 
-/// A gate that ends the run once it is told to. It adds up what it receives of the peers.
+/// A gate that ends the run once `end` was called. It adds up the counts of the peers.
 #[derive(Drop)]
 struct Counter {
     over: AtomicU64,
@@ -99,6 +99,47 @@ impl RunProgress for Counter {
                 self.dropped.fetch_add(dropped, Ordering::SeqCst);
             }
         }
+    }
+}
+
+/// A writer that keeps the first octets of what it takes.
+#[derive(Drop)]
+struct Notes {
+    kept: [u8; 64],
+    /// The number of octets so far.
+    count: usize,
+}
+
+impl Notes {
+    /// Returns a writer that has taken nothing.
+    fn new() -> Notes {
+        Notes {
+            kept: [0; 64],
+            count: 0,
+        }
+    }
+
+    /// Returns whether nothing came, or the line about the frames of the peers that were in transit when the run ended.
+    fn are_of_transit(&self) -> bool {
+        let line = &self.kept[..21];
+        self.count == 0
+            || self.count == 21
+                && (line == b"frames in transit: 1\n".as_slice()
+                    || line == b"frames in transit: 2\n".as_slice())
+    }
+}
+
+impl Write for Notes {
+    fn write(&mut self, buf: &[u8]) -> io::Result<usize> {
+        let at = self.count.min(64);
+        let n = buf.len().min(64 - at);
+        self.kept[at..at + n].copy_from_slice(&buf[..n]);
+        self.count = self.count.saturating_add(buf.len());
+        Ok(buf.len())
+    }
+
+    fn flush(&mut self) -> io::Result<()> {
+        Ok(())
     }
 }
 
@@ -183,7 +224,7 @@ fn run_with_visits<R>(
     file: &str,
     counter: &Counter,
     output: &mut Sheet,
-    errors: &mut Sheet,
+    errors: &mut Notes,
 ) -> (bool, Result<Result<u8, NetworkFault>, AllocError>)
 where
     R: Files<File = File>
@@ -203,7 +244,7 @@ fn a_port_stays_for_the_next_peer(rt: HostRuntime) -> Result<(), Fail> {
     enter(&rt, rt.process())?;
     let file = joined(alloc, [LISTENER, "stay = true\n"])?;
     let counter = Counter::new();
-    let (mut output, mut errors) = (Sheet::front(b"ended stopped\n"), Sheet::whole(b""));
+    let (mut output, mut errors) = (Sheet::front(b"ended stopped\n"), Notes::new());
     let (is_right, told) = run_with_visits(
         &rt,
         alloc,
@@ -213,7 +254,8 @@ fn a_port_stays_for_the_next_peer(rt: HostRuntime) -> Result<(), Fail> {
         &mut errors,
     );
     assert_eq!(rt; (told?, is_right), (Ok(0), true));
-    assert_eq!(rt; (output.is_right(), errors.is_right()), (true, true));
+    // (the run may end while a frame of a peer is on its way to the other port)
+    assert_eq!(rt; (output.is_right(), errors.are_of_transit()), (true, true));
     assert_eq!(rt; counter.sums(), [2, 2, 2, 1, 1]);
     leave(&rt, rt.process())?;
     Ok(())
