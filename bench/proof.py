@@ -221,7 +221,7 @@ def try_edits_here(root, name):
             kept = shutil.copytree(f"{room}/seed", f"{room}/{number}") if len(edits) > 1 else None
             results.append(rt.must_fail(crate, edit, jobs, kept))
     print(*[text for _, text in results], sep="\n")
-    return 0 if all(it in (rt.REFUSED, rt.AT_LIMIT) for it, _ in results) else 1
+    return 0 if all(proving.is_refused(it) for it, _ in results) else 1
 
 
 def measured(tree, names, room, what, call):

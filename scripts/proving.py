@@ -23,7 +23,7 @@ from concurrent.futures import FIRST_COMPLETED, ThreadPoolExecutor, wait
 
 ROOT = os.path.dirname(os.path.dirname(os.path.realpath(__file__)))
 # What the scripts take of the toolchain's script rt, and of rtlib.py beside it.
-OF_RT = "AT_LIMIT Crate REFUSED checked edits_of free handles_of in_lanes must_fail need processors read_edit".split()
+OF_RT = "Crate checked edits_of free handles_of in_lanes must_fail need processors read_edit".split()
 OF_RTLIB = "Crate KIT RATTLE crates_below files_of guarded lock text_of".split()
 # The checker's lines that tell how far it is, and that of a proved crate.
 PROGRESS = re.compile(r"checked (\S+), (\d+) of (\d+)$")
@@ -58,6 +58,12 @@ def toolchain():
     # (a stamp covers all crates below, so each is worked out once)
     rt.Crate.stamp = functools.lru_cache(maxsize=None)(rt.rtlib.Crate.stamp)
     return rt
+
+
+def is_refused(told):
+    """Returns whether the prover refused a mutant or came to its limit at it, by what the toolchain's `must_fail` returned first: a truth value, or a word of its own."""
+    rt = toolchain()
+    return told is True or told in (getattr(rt, "REFUSED", True), getattr(rt, "AT_LIMIT", True))
 
 
 def crates_of(root):
