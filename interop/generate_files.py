@@ -120,11 +120,12 @@ def swap_end(chance, document):
 
 
 def put_top(chance, document):
-    document[chance.choice(["network", "bridge", "link", "service", "event", "port"])] = chance.choice(WRONG)
+    document[chance.choice(["network", "bridge", "link", "service", "event", "tap", "port"])] = chance.choice(WRONG)
 
 
 def too_many(chance, document):
-    array, most = chance.choice([("bridge", 32), ("link", 64), ("service", 64), ("event", 128), ("port", 128)])
+    arrays = [("bridge", 32), ("link", 64), ("service", 64), ("event", 128), ("tap", 128), ("port", 128)]
+    array, most = chance.choice(arrays)
     rows = document.get(array)
     if isinstance(rows, list) and rows and isinstance(rows[0], dict):
         document[array] = (rows * 129)[: most + chance.choice([0, 1])]
@@ -187,11 +188,26 @@ def put_events(chance, document):
         document["event"].append({"at": at, "bridge": bridge, "port": port, "up": chance.random() < 0.5})
 
 
+def put_taps(chance, document):
+    """Adds taps of links, and sometimes of one that isn't there."""
+    names = [table["name"] for table in document["link"]]
+    if not names or chance.random() < 0.7:
+        return
+    document["tap"] = []
+    for _ in range(chance.choice([1, 2, 5])):
+        name = "nobody" if chance.random() < 0.05 else chance.choice(names)
+        table = {"link": name, "write": chance.choice(["", "a", "a/b.pcap", "-"])}
+        generate.sometimes(chance, 0.5, table, "direction", lambda: chance.choice(["ab", "ba", "both"]))
+        generate.sometimes(chance, 0.5, table, "stamp", lambda: chance.choice(["ticks", "time"]))
+        document["tap"].append(table)
+
+
 def plan_file(chance):
     """Returns a plan file, valid or with some errors."""
     document = generate.plan(chance)
     put_kinds(chance, document)
     put_events(chance, document)
+    put_taps(chance, document)
     for _ in range(chance.choice([0, 1, 1, 1, 2])):
         try:
             chance.choice(CHANGES)(chance, document)

@@ -12,7 +12,7 @@ ADDRESS = re.compile(r"[0-9A-Fa-f]{2}(-[0-9A-Fa-f]{2}){5}\Z")
 HEX = re.compile(r"([0-9A-Fa-f]{2})*\Z")
 STATES = ("discarding", "learning", "forwarding")
 KINDS = ("memory", "capture", "record", "replay", "socket")
-MOST = {"bridge": 32, "link": 64, "service": 64, "event": 128, "port": 128}
+MOST = {"bridge": 32, "link": 64, "service": 64, "event": 128, "tap": 128, "port": 128}
 # The value if the file sets no limit.
 UNLIMITED = 2**64 - 1
 
@@ -142,6 +142,12 @@ KEYS = {
         ("bridge", text(NAME), NONE),
         ("port", number(1, 16), NONE),
         ("up", (is_truth, lambda _: True), NONE),
+    ],
+    "tap": [
+        ("link", text(NAME), NONE),
+        ("write", text(), NONE),
+        ("direction", word(("ab", "ba", "both")), "both"),
+        ("stamp", word(("ticks", "time")), "ticks"),
     ],
     "port": [
         ("name", text(NAME), NONE),
@@ -303,6 +309,15 @@ def check_events(document, bridges, used):
             raise Fault(f"5 range event[{place}].port")
 
 
+def check_taps(document, links, has_time):
+    """Checks that taps record links that are there, and have the time of day only with a clock that shows it."""
+    for place, table in enumerate(tables_of(document, "tap")):
+        row = read_table(table, f"tap[{place}]", "tap")
+        index_of(links, row["link"])
+        if row["stamp"] == "time" and not has_time:
+            raise Fault(f"5 range tap[{place}].stamp")
+
+
 def read_ports(document, plan, used, has_time):
     rows = []
     for place, table in enumerate(tables_of(document, "port")):
@@ -361,6 +376,7 @@ def read_plan(octets):
     plan.links = read_links(document, plan.bridges, used)
     plan.services = read_services(document)
     check_events(document, plan.bridges, used)
+    check_taps(document, plan.links, row["tick_ms"] > 0)
     plan.ports = read_ports(document, plan, used, row["tick_ms"] > 0)
     for link in plan.links:
         for end in (link["end_a"], link["end_b"]):

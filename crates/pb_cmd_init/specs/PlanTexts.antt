@@ -209,7 +209,7 @@ abbrev pub kinds_text : ℕ → ℕ → List ℕ
 kinds_text bridge services =
     needs_text ++ capture_text bridge (services + 3) ++ socket_text bridge (services + 4)
 
--- an event and an acceptance, as comments
+-- an event, a tap and an acceptance, as comments
 abbrev pub failures_of_links : List ℕ
 failures_of_links =
     codes "\n"
@@ -220,13 +220,20 @@ failures_of_links =
     ++ codes "#port = 1\n"
     ++ codes "#up = false\n"
     ++ codes "\n"
+    ++ codes "# A capture of the frames that cross a link, S-tags and BPDUs included: both, or \"ab\" or \"ba\" alone.\n"
+    ++ codes "#[[tap]]\n"
+    ++ codes "#link = \"L1\"\n"
+    ++ codes "#write = \"link.pcap\"\n"
+    ++ codes "#direction = \"both\"\n"
+    ++ codes "#stamp = \"ticks\"\n"
+    ++ codes "\n"
     ++ codes "# A failure that survive accepts, for all services or for one. In place of link: bridge, or links\n"
     ++ codes "# with two names.\n"
     ++ codes "#[[accept]]\n"
     ++ codes "#link = \"L1\"\n"
     ++ codes "#service = \"red\"\n"
 
--- a network without links has neither
+-- a network without links has none of them
 abbrev pub failures_text : Topology → List ℕ
 failures_text topology = if link_count topology == 0 then [] else failures_of_links
 

@@ -72,7 +72,7 @@ const KINDS: &str = "\
 # customer ports. With replay = \"times\", which needs tick_ms, the frames of a file enter as far apart as\n\
 # their times are, divided by speed.\n";
 
-/// An event of a run, and an acceptance.
+/// An event and a tap of a run, and an acceptance.
 const FAILURES: &str = "\
 \n\
 # An event of a run: at tick 300 of B1 its port 1 is disabled. With up = true it is enabled.\n\
@@ -81,6 +81,13 @@ const FAILURES: &str = "\
 #bridge = \"B1\"\n\
 #port = 1\n\
 #up = false\n\
+\n\
+# A capture of the frames that cross a link, S-tags and BPDUs included: both, or \"ab\" or \"ba\" alone.\n\
+#[[tap]]\n\
+#link = \"L1\"\n\
+#write = \"link.pcap\"\n\
+#direction = \"both\"\n\
+#stamp = \"ticks\"\n\
 \n\
 # A failure that survive accepts, for all services or for one. In place of link: bridge, or links\n\
 # with two names.\n\
@@ -114,7 +121,7 @@ pub(crate) fn put_head(out: &mut String, topology: Topology) -> Result<(), Memor
     Ok(())
 }
 
-/// Returns an event and an acceptance: nothing for a network without links.
+/// Returns an event, a tap and an acceptance: nothing for a network without links.
 fn failures_of(topology: Topology) -> &'static str
     ensures { result.now ≡ failures_text topology }
 {
@@ -167,7 +174,7 @@ pub(crate) fn put_kinds(out: &mut String, bridge: u8, services: u8) -> Result<()
     put_socket(out, bridge, services + 4)
 }
 
-/// Appends an event and an acceptance to a text, as comments. A network without links has neither.
+/// Appends an event, a tap and an acceptance to a text, as comments. A network without links has none of them.
 ///
 /// # Errors
 ///

@@ -1,7 +1,7 @@
 -- The keys of tables, as pb_service and pb_accept read them.
 use Rattle.std.specs.Prelude.{ℕ, false, List, [], ◌∷◌, ◌++◌, codes, if◌then◌else◌}
 use Rattle.pb_frame.specs.Admission.{same}
-use Rattle.pb_service.specs.Formats.{top_keys, network_keys, bridge_keys, link_keys, service_keys, event_keys, port_keys}
+use Rattle.pb_service.specs.Formats.{top_keys, network_keys, bridge_keys, link_keys, service_keys, event_keys, tap_keys, port_keys}
 use Rattle.pb_service.specs.Keys.{names_of}
 
 -- the keys of all kinds of customer ports: those of a port in memory, and those of the other kinds
@@ -21,4 +21,4 @@ keys_of word =
     if same word (codes "network") then names_of network_keys else if same word (codes "bridge") then names_of bridge_keys
     else if same word (codes "link") then names_of link_keys else if same word (codes "service") then names_of service_keys
     else if same word (codes "port") then all_port_keys else if same word (codes "event") then names_of event_keys
-    else if same word (codes "accept") then accept_keys else top_keys
+    else if same word (codes "tap") then names_of tap_keys else if same word (codes "accept") then accept_keys else top_keys

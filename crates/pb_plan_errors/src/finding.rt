@@ -108,6 +108,7 @@ fn lacking(document: &Table, word: &str, row: &Table, name: &str) -> Option<&'st
             ),
         },
         "event" => unnamed(document, row, name, &["bridge"]),
+        "tap" => unnamed(document, row, name, &["link"]),
         "port" => unnamed(document, row, name, &["bridge", "service"]),
         "accept" => match unnamed(document, row, name, &["link", "bridge", "service"]) {
             Some(key) => Some(key),
@@ -135,7 +136,7 @@ fn no_such_in(document: &Table, word: &'static str, name: &str) -> Option<Findin
 fn no_such(document: &Table, name: &str) -> Option<Finding<'static>>
     ensures { IfSome result (IsNoSuch (table_view document.now) name.now) }
 {
-    for word in ["link", "event", "port", "accept"] {
+    for word in ["link", "event", "tap", "port", "accept"] {
         if let Some(finding) = no_such_in(document, word, name) {
             return Some(finding);
         }
@@ -169,7 +170,7 @@ fn distinct_keys(word: &str) -> &'static [&'static str] {
     match word {
         "bridge" => &["name", "address"],
         "service" => &["name", "vid"],
-        "event" => &[],
+        "event" | "tap" => &[],
         _ => &["name"],
     }
 }

@@ -105,7 +105,7 @@ fn conflict_of(word: &str, key: &str, row: &Table) -> Option<&'static str> {
             Some("allowed beside services")
         }
         ("event", "port") if 1 <= number && number <= 16 => Some("an end of a link"),
-        ("port", "stamp") if text_at(row, key) == "time" => Some("allowed without tick_ms"),
+        ("port" | "tap", "stamp") if text_at(row, key) == "time" => Some("allowed without tick_ms"),
         ("port", "replay") if text_at(row, key) == "times" => Some("allowed without tick_ms"),
         ("port", "speed") if 1 <= number && number <= 1_000 => Some("allowed without replay"),
         _ => None,

@@ -7,7 +7,7 @@ ghost use Rattle.pb_plan_errors.specs.Paths.{word_of, key_of, table_of, IsRow, I
 use pb_diagnostics::Site;
 
 /// The arrays of tables, in the order in which they are checked.
-pub(crate) const SECTIONS: [&str; 5] = ["bridge", "link", "service", "event", "port"];
+pub(crate) const SECTIONS: [&str; 6] = ["bridge", "link", "service", "event", "tap", "port"];
 
 /// Returns the texts before and after the first place of a separator.
 fn parted<'a>(text: &'a str, separator: &str) -> Option<(&'a str, &'a str)>

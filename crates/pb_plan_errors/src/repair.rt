@@ -152,6 +152,19 @@ fn move_event(alloc: Global, document: &mut Table, index: usize) -> Result<(), M
     Ok(())
 }
 
+/// Moves a tap to the first link. Without a link all taps are removed.
+fn move_tap(alloc: Global, document: &mut Table, index: usize) -> Result<(), Memory> {
+    let Some(link) = row_at(document, "link", 0) else {
+        document.remove("tap");
+        return Ok(());
+    };
+    let name = Value::string(alloc, text_at(link, "name"))?;
+    if let Some(row) = row_of(document, "tap", index) {
+        set(alloc, row, "link", name)?;
+    }
+    Ok(())
+}
+
 /// Removes a text from the list at a key of a table.
 fn unlist(row: &mut Table, key: &str, text: &str) {
     if let Some(Value::Array(items)) = row.get_mut(key) {
@@ -185,6 +198,10 @@ fn repair_key(
 ) -> Result<bool, Memory> {
     if word == "event" && (key == "bridge" || key == "port") {
         move_event(alloc, document, index)?;
+        return Ok(true);
+    }
+    if word == "tap" && key == "link" {
+        move_tap(alloc, document, index)?;
         return Ok(true);
     }
     let value = match fault {

@@ -39,6 +39,8 @@ const NAMES: &str = "an array of different names";
 
 const PORT: &str = "in 1..16";
 
+const STAMP: &str = "\"ticks\" or \"time\"";
+
 const QUEUE: &str = "in 1..4096";
 
 const COST: &str = "in 1..200000000";
@@ -114,7 +116,7 @@ static PORTS: [Rule; 16] = [
     rule!("replay", STRING, "\"times\""),
     rule!("speed", INTEGER, "in 1..1000"),
     rule!("write", STRING, STRING),
-    rule!("stamp", STRING, "\"ticks\" or \"time\""),
+    rule!("stamp", STRING, STAMP),
     rule!("path", STRING, STRING),
     rule!("listen", STRING, STRING),
     rule!("stay", FLAG, FLAG),
@@ -125,6 +127,13 @@ static EVENT: [Rule; 4] = [
     rule!("bridge", STRING, NAME),
     rule!("port", INTEGER, PORT),
     rule!("up", FLAG, FLAG),
+];
+
+static TAP: [Rule; 4] = [
+    rule!("link", STRING, NAME),
+    rule!("write", STRING, STRING),
+    rule!("direction", STRING, "\"ab\", \"ba\" or \"both\""),
+    rule!("stamp", STRING, STAMP),
 ];
 
 static ACCEPT: [Rule; 4] = [
@@ -140,13 +149,14 @@ static ACCEPT: [Rule; 4] = [
 
 const TABLES: &str = "an array of tables";
 
-static TOP: [Rule; 7] = [
+static TOP: [Rule; 8] = [
     rule!("network", "a table", "a table"),
     rule!("bridge", TABLES, TABLES),
     rule!("link", TABLES, TABLES),
     rule!("service", TABLES, TABLES),
     rule!("port", TABLES, TABLES),
     rule!("event", TABLES, TABLES),
+    rule!("tap", TABLES, TABLES),
     rule!("accept", TABLES, TABLES),
 ];
 
@@ -168,6 +178,8 @@ pub(crate) fn rules_of(word: &str) -> &'static [Rule]
         &PORTS
     } else if word == "event" {
         &EVENT
+    } else if word == "tap" {
+        &TAP
     } else if word == "accept" {
         &ACCEPT
     } else {

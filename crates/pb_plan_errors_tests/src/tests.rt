@@ -2,6 +2,7 @@
 
 mod both_ends;
 mod printable;
+mod taps;
 
 use pb_diagnostics::put_diagnostic;
 use pb_frame::Text;

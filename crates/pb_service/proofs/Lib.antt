@@ -1,6 +1,7 @@
 pub mod Items
 pub mod Stations
 pub mod EventLemmas
+pub mod TapLemmas
 pub mod KeyLemmas
 pub mod Listings
 pub mod Refusing

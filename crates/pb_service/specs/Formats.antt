@@ -3,15 +3,15 @@ use Rattle.std.specs.Prelude.{ℕ, Bool, codes, List, [], ◌∷◌, if◌then�
 use Rattle.pb_frame.specs.Admission.{same}
 use Rattle.toml.specs.Data.{Members, get_member}
 use Rattle.pb_service.specs.declared.section.Section.{Section}
-use Rattle.pb_service.specs.declared.section.Section.TheVariants.{Bridge, Link, Service, Port, Event}
-use Rattle.pb_service.specs.declared.rule.Rule.TheVariants.{Number, BridgePriority, PortPriority, Name, Address, Spanning, Queues, State, PortKind, Stamp, Replay, Path, Losses, Names, Frames, Flag, FlagOrAuto}
+use Rattle.pb_service.specs.declared.section.Section.TheVariants.{Bridge, Link, Service, Port, Event, Tap}
+use Rattle.pb_service.specs.declared.rule.Rule.TheVariants.{Number, BridgePriority, PortPriority, Name, Address, Spanning, Queues, State, PortKind, Stamp, Replay, Direction, Path, Losses, Names, Frames, Flag, FlagOrAuto}
 use Rattle.pb_service.specs.Keys.{KeyRule, with_default, without_default}
 use Rattle.pb_service.specs.Told.{has_key, text_told}
 
 -- the keys at the top: those of the plan, and `accept`, which pb_accept reads
 abbrev pub top_keys : List (List ℕ)
 top_keys =
-    codes "network" ∷ codes "bridge" ∷ codes "link" ∷ codes "service" ∷ codes "port" ∷ codes "event" ∷ codes "accept" ∷ []
+    codes "network" ∷ codes "bridge" ∷ codes "link" ∷ codes "service" ∷ codes "port" ∷ codes "event" ∷ codes "tap" ∷ codes "accept" ∷ []
 
 -- the keys of the network
 abbrev pub network_keys : List KeyRule
@@ -101,6 +101,15 @@ event_keys =
     ∷ without_default (codes "up") Flag
     ∷ []
 
+-- the keys of a tap
+abbrev pub tap_keys : List KeyRule
+tap_keys =
+    without_default (codes "link") Name
+    ∷ without_default (codes "write") Path
+    ∷ with_default (codes "direction") Direction
+    ∷ with_default (codes "stamp") Stamp
+    ∷ []
+
 -- the keys of a table of an array
 abbrev pub keys_of : Section → Members → List KeyRule
 keys_of Bridge row = bridge_keys
@@ -108,3 +117,4 @@ keys_of Link row = link_keys
 keys_of Service row = service_keys
 keys_of Port row = port_keys (text_told (get_member (codes "kind") row)) (has_key row (codes "listen"))
 keys_of Event row = event_keys
+keys_of Tap row = tap_keys

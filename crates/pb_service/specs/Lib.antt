@@ -9,5 +9,6 @@ pub mod Tables
 pub mod Refusals
 pub mod UsedPorts
 pub mod Events
+pub mod Taps
 pub mod Lossless
 pub mod PlanFiles

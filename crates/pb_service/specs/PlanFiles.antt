@@ -10,13 +10,15 @@ use Rattle.pb_service.specs.declared.fault.PlanFault.{PlanFault}
 use Rattle.pb_service.specs.declared.fault.PlanFault.TheVariants.{Utf8, Toml, Memory}
 use Rattle.pb_lan.specs.declared.limits.Limits.{Limits}
 use Rattle.pb_service.specs.declared.event.PortEvent.{PortEvent}
+use Rattle.pb_service.specs.declared.tap.TapSpec.{TapSpec}
 use Rattle.pb_service.specs.declared.port_spec.PortSpec.{PortSpec}
-use Rattle.pb_service.specs.declared.section.Section.TheVariants.{Bridge, Link, Service, Port, Event}
+use Rattle.pb_service.specs.declared.section.Section.TheVariants.{Bridge, Link, Service, Port, Event, Tap}
 use Rattle.pb_service.specs.Keys.{IsAccepted, first_unknown}
-use Rattle.pb_service.specs.Formats.{top_keys, network_keys, bridge_keys, link_keys, service_keys, event_keys}
+use Rattle.pb_service.specs.Formats.{top_keys, network_keys, bridge_keys, link_keys, service_keys, event_keys, tap_keys}
 use Rattle.pb_service.specs.Told.{rows_of, table_told, spanning_of, queues_of}
 use Rattle.pb_service.specs.Lossless.{is_lossless}
 use Rattle.pb_service.specs.Events.{IsEventOf}
+use Rattle.pb_service.specs.Taps.{IsTapOf}
 use Rattle.pb_service.specs.Clocks.{has_two_clocks, holds_forever, is_vainly_prompt}
 use Rattle.pb_service.specs.Tables.{number_at, text_at, prompt_told, lossless_told, limits_told, IsRead, IsReadPort, IsBridgeOf, IsLinkOf, IsServiceOf, IsCustomerOf, IsPortSpecOf}
 use Rattle.pb_service.specs.Refusals.{Refuses, HasTables, ends_told, is_table, names_of}
@@ -56,6 +58,11 @@ IsLosslessIn document specs result = result ≡ is_lossless (lossless_told (netw
 pub record AreEventsOf (document : Members) (events : List PortEvent) : Type 0 where
   pub tables : HasTables document Event
   pub told : AllZip (IsRead (IsEventOf (names_of document Bridge) (ends_told document)) event_keys) (rows_of document Event) events
+
+-- the taps of a document, one for each of its tables
+pub record AreTapsOf (document : Members) (taps : List TapSpec) : Type 0 where
+  pub tables : HasTables document Tap
+  pub told : AllZip (IsRead (IsTapOf (names_of document Link) (limits_told (network_row document))) tap_keys) (rows_of document Tap) taps
 
 -- the plan of a document, table by table, and the kind of each customer port
 pub record IsPlanOf (document : Members) (plan : Plan) (specs : List PortSpec) : Type 0 where

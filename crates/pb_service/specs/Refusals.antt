@@ -11,14 +11,14 @@ use Rattle.pb_lan.specs.declared.limits.Limits.{Limits}
 use Rattle.pb_service.specs.declared.fault.PlanFault.{PlanFault}
 use Rattle.pb_service.specs.declared.fault.PlanFault.TheVariants.{Kind, Range, Unknown, Twice, NoSuch, LinkEnd, TooMany, Memory}
 use Rattle.pb_service.specs.declared.section.Section.{Section}
-use Rattle.pb_service.specs.declared.section.Section.TheVariants.{Bridge, Link, Service, Port, Event}
+use Rattle.pb_service.specs.declared.section.Section.TheVariants.{Bridge, Link, Service, Port, Event, Tap}
 use Rattle.pb_service.specs.declared.section.KeyTable.TheVariants.{Network, Row}
 use Rattle.pb_service.specs.declared.used.LocalPort.{LocalPort}
 use Rattle.pb_service.specs.UsedPorts.{is_used}
 use Rattle.pb_service.specs.Sections.{word_of, most_of, path_at}
 use Rattle.pb_service.specs.Values.{all_items, any_item, is_list, text_in}
 use Rattle.pb_service.specs.Keys.{RefusesRow, SomeOf, first_unknown}
-use Rattle.pb_service.specs.Formats.{top_keys, network_keys, event_keys, keys_of}
+use Rattle.pb_service.specs.Formats.{top_keys, network_keys, event_keys, tap_keys, keys_of}
 use Rattle.pb_service.specs.Told.{rows_of, has_key, names_in, number_from, table_told, spanning_of}
 use Rattle.pb_service.specs.Clocks.{lacks_time, lacks_clock, RefusesClocks, RefusesPrompt}
 use Rattle.pb_service.specs.Tables.{number_at, text_at, items_at, is_one_of, doubled_key, has_vain_speed, limits_told, prompt_told}
@@ -79,6 +79,13 @@ abbrev pub RefusesEvent : List (List ℕ) → List LocalPort → ℕ → Members
 RefusesEvent bridges ends index row fault =
     (fault ≡ Memory) ⊎ (RefusesRow event_keys (Row Event index) row fault ⊎ (LacksName bridges row (codes "bridge") fault
     ⊎ ((fault ≡ Range (path_at (Row Event index) (codes "port"))) × (is_used ends (port_told bridges row (codes "bridge") (codes "port")) ≡ false))))
+
+-- a tap breaks a rule of its keys, names a link that doesn't exist, or its records are to have the time of day and no
+-- clock ticks by time
+abbrev pub RefusesTap : List (List ℕ) → Limits → ℕ → Members → PlanFault → Type 0
+RefusesTap links limits index row fault =
+    (fault ≡ Memory) ⊎ (RefusesRow tap_keys (Row Tap index) row fault ⊎ (LacksName links row (codes "link") fault
+    ⊎ ((fault ≡ Range (path_at (Row Tap index) (codes "stamp"))) × (lacks_time limits (text_at row (codes "stamp")) ≡ true))))
 
 -- a local port of an existing bridge occurs a second time in the list
 pub record UsesTwice (ports : List LocalPort) (port : LocalPort) : Type 0 where
@@ -141,6 +148,8 @@ pub data Refuses : Members → PlanFault → Type 0 where
       → Refuses document (Range (path_at (Row Port index) (codes "speed")))
   in_event : (document : Members) (index : ℕ) (row : Members) (fault : PlanFault)
       → slice_get (rows_of document Event) index ≡ Some row → RefusesEvent (names_of document Bridge) (ends_told document) index row fault → Refuses document fault
+  in_tap : (document : Members) (index : ℕ) (row : Members) (fault : PlanFault)
+      → slice_get (rows_of document Tap) index ≡ Some row → RefusesTap (names_of document Link) (network_limits document) index row fault → Refuses document fault
   no_memory : (document : Members) → Refuses document Memory
 
 -- a table breaks a rule of its keys, or has the name of an earlier table

@@ -13,6 +13,8 @@ use Rattle.pb_lan.specs.declared.plan.Spanning.TheVariants.{Fixed, Rstp}
 use Rattle.pb_service.specs.declared.port_spec.Stamp.{Stamp}
 use Rattle.pb_service.specs.declared.port_spec.Stamp.TheVariants.{Ticks, Time}
 use Rattle.pb_service.specs.declared.section.Section.{Section}
+use Rattle.pb_service.specs.declared.tap.TapDirection.{TapDirection}
+use Rattle.pb_service.specs.declared.tap.TapDirection.TheVariants.{Ab, Ba, Both}
 use Rattle.pb_service.specs.Sections.{word_of}
 use Rattle.pb_service.specs.Values.{natural_of, text_in, any_item, is_text}
 
@@ -55,6 +57,10 @@ queues_of text = if same text (codes "class") then PerClass else PerPort
 
 abbrev pub stamp_of : List ℕ → Stamp
 stamp_of text = if same text (codes "time") then Time else Ticks
+
+-- one direction if the text names it, and both if it is any other
+abbrev pub direction_of : List ℕ → TapDirection
+direction_of text = if same text (codes "ab") then Ab else if same text (codes "ba") then Ba else Both
 
 -- the natural numbers of a list
 abbrev pub naturals_in : Items → List ℕ

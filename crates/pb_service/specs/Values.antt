@@ -9,7 +9,7 @@ use Rattle.pb_frame.specs.Hex.{is_digit, IsMacText}
 use Rattle.pb_lan.specs.Names.{is_name}
 use Rattle.toml.specs.Data.{Data, Items, no_items, item, as_str, as_integer, as_array, as_bool}
 use Rattle.pb_service.specs.declared.rule.Rule.{Rule}
-use Rattle.pb_service.specs.declared.rule.Rule.TheVariants.{Number, BridgePriority, PortPriority, Name, Address, Spanning, Queues, State, PortKind, Stamp, Replay, Path, Losses, Names, Frames, Flag, FlagOrAuto}
+use Rattle.pb_service.specs.declared.rule.Rule.TheVariants.{Number, BridgePriority, PortPriority, Name, Address, Spanning, Queues, State, PortKind, Stamp, Replay, Direction, Path, Losses, Names, Frames, Flag, FlagOrAuto}
 
 -- the number of an integer that isn't negative
 abbrev pub to_natural : ℤ → Option ℕ
@@ -92,6 +92,7 @@ IsAllowed State d = is_text (λ t. same t (codes "discarding") || (same t (codes
 IsAllowed PortKind d = is_text is_port_kind d ≡ true
 IsAllowed Stamp d = is_text (λ t. same t (codes "ticks") || same t (codes "time")) d ≡ true
 IsAllowed Replay d = is_text (same (codes "times")) d ≡ true
+IsAllowed Direction d = is_text (λ t. same t (codes "ab") || (same t (codes "ba") || same t (codes "both"))) d ≡ true
 IsAllowed Path d = is_some (as_str d) ≡ true
 IsAllowed Losses d = is_list (rise_from 0) d ≡ true
 IsAllowed Names d = is_list (λ ds. all_items (is_text is_name) ds && are_distinct ds) d ≡ true

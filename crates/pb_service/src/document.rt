@@ -4,7 +4,7 @@ ghost use Rattle.std.specs.Prelude.{IfOk, IfErr, OnOk};
 ghost use Rattle.toml.specs.View.{table_view};
 ghost use Rattle.pb_lan.specs.Plans.{IsSound};
 ghost use Rattle.pb_service.specs.Refusals.{Refuses};
-ghost use Rattle.pb_service.specs.PlanFiles.{IsPlanOf, AreLimitsOf, AreEventsOf, IsLosslessIn, Tells};
+ghost use Rattle.pb_service.specs.PlanFiles.{IsPlanOf, AreLimitsOf, AreEventsOf, AreTapsOf, IsLosslessIn, Tells};
 ghost use Rattle.pb_service.specs.PlanFiles.{IsPlanFile, RefusesFile};
 
 use crate::bridge::read_bridges;
@@ -16,6 +16,7 @@ use crate::port::{Customers, read_customers};
 use crate::port_spec::{PortSpec, is_lossless};
 use crate::row::check_top;
 use crate::service::read_services;
+use crate::tap::{TapSpec, read_taps};
 use pb_frame::Seq;
 use pb_lan::{Limits, Plan};
 use std::alloc::Global;
@@ -34,17 +35,20 @@ pub struct PlanFile {
     pub is_lossless: bool,
     /// The events that disable and enable ports during a run, in the order of the file.
     pub events: Vec<PortEvent>,
+    /// The taps of links, in the order of the file.
+    pub taps: Vec<TapSpec>,
 }
 
 /// Returns the contents of a document, or the first rule that it breaks.
 ///
-/// The order of the checks is: keys at the top, network, bridges, links, services, events, customer ports.
+/// The order of the checks is: keys at the top, network, bridges, links, services, events, taps, customer ports.
 fn file_of(alloc: Global, document: &Table) -> Result<PlanFile, PlanFault>
     ensures ok { IfOk result (λ file. IsPlanOf (table_view document.now) file.plan file.ports.items) }
     ensures limits { IfOk result (λ file. AreLimitsOf (table_view document.now) file.limits) }
     ensures lossless { IfOk result (λ file.
         IsLosslessIn (table_view document.now) file.ports.items file.is_lossless) }
     ensures events { IfOk result (λ file. AreEventsOf (table_view document.now) file.events.items) }
+    ensures taps { IfOk result (λ file. AreTapsOf (table_view document.now) file.taps.items) }
     ensures sound { IfOk result (λ file. IsSound file.plan) }
     ensures err { IfErr result (Refuses (table_view document.now)) }
 {
@@ -54,6 +58,7 @@ fn file_of(alloc: Global, document: &Table) -> Result<PlanFile, PlanFault>
     let Links { links, used } = read_links(alloc, document)?;
     let services = read_services(alloc, document)?;
     let events = read_events(alloc, document, used.as_slice())?;
+    let taps = read_taps(alloc, document, network.limits)?;
     let Customers { customers, specs } = read_customers(alloc, document, network.limits, used)?;
     let plan = Plan {
         bridges: Seq::from_vec(bridges),
@@ -74,6 +79,7 @@ fn file_of(alloc: Global, document: &Table) -> Result<PlanFile, PlanFault>
         limits: network.limits,
         is_lossless,
         events,
+        taps,
     })
 }
 
@@ -88,6 +94,7 @@ pub fn read_plan_file(alloc: Global, file: &[u8]) -> Result<PlanFile, PlanFault>
     ensures lossless { IfOk result (λ r. Tells file.now (λ document.
         IsLosslessIn document r.ports.items r.is_lossless)) }
     ensures events { IfOk result (λ r. Tells file.now (λ document. AreEventsOf document r.events.items)) }
+    ensures taps { IfOk result (λ r. Tells file.now (λ document. AreTapsOf document r.taps.items)) }
     ensures sound { IfOk result (λ r. IsSound r.plan) }
     ensures err { IfErr result (RefusesFile file.now) }
 {
@@ -111,7 +118,7 @@ pub fn read_plan_file(alloc: Global, file: &[u8]) -> Result<PlanFile, PlanFault>
 ///
 /// `Memory` if an allocation failed. `Utf8` if the file isn't UTF-8, `Toml` if it isn't a TOML document. Otherwise the
 /// first rule that the file breaks. Keys at the top are checked first, then the tables in the order network, bridge,
-/// link, service, event, port. The keys of a table are checked in the order of the format, and unknown keys last.
+/// link, service, event, tap, port. The keys of a table are checked in the order of the format, and unknown keys last.
 ///
 /// # Examples
 ///
@@ -139,6 +146,7 @@ pub fn read_plan(alloc: Global, file: &[u8]) -> Result<(Plan, Vec<PortSpec>), Pl
         limits: _,
         is_lossless: _,
         events: _,
+        taps: _,
     } = read_plan_file(alloc, file)?;
     Ok((plan, ports))
 }
@@ -159,6 +167,7 @@ pub fn read_limits(alloc: Global, file: &[u8]) -> Result<Limits, PlanFault>
         limits,
         is_lossless: _,
         events: _,
+        taps: _,
     } = read_plan_file(alloc, file)?;
     Ok(limits)
 }

@@ -35,13 +35,13 @@ pub enum PlanFault {
     /// Two of a kind have this name, address or VID.
     #[error("twice {}", .0.as_str())]
     Twice(Text),
-    /// No bridge, or no service, has this name.
+    /// No bridge, no service or no link has this name.
     #[error("no-such {}", .0.as_str())]
     NoSuch(Text),
     /// A local port of a bridge is used twice, by ends of links or customer ports.
     #[error("link-end")]
     LinkEnd,
-    /// There are more bridges, links, services, ports or events than a plan may have.
+    /// There are more bridges, links, services, ports, events or taps than a plan may have.
     #[error("too-many")]
     TooMany,
     /// An allocation failed.

@@ -135,6 +135,14 @@ static EVENT: [Key; 4] = [
     needed!("up", Rule::Flag),
 ];
 
+/// The keys of a tap.
+static TAP: [Key; 4] = [
+    needed!("link", Rule::Name),
+    needed!("write", Rule::Path),
+    optional!("direction", Rule::Direction),
+    optional!("stamp", Rule::Stamp),
+];
+
 /// Returns the keys of the network.
 pub(crate) fn network_keys() -> &'static [Key]
     ensures { rules_of result.now ≡ network_keys }
@@ -169,5 +177,6 @@ pub(crate) fn keys_of(section: Section, row: &Table) -> &'static [Key]
         Section::Service => &SERVICE,
         Section::Port => port_keys(text_at(row, "kind"), has_key(row, "listen")),
         Section::Event => &EVENT,
+        Section::Tap => &TAP,
     }
 }

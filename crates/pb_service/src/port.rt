@@ -65,7 +65,7 @@ fn frames_of(alloc: Global, items: &[Value]) -> Result<Vec<Bytes>, PlanFault>
 }
 
 /// Returns whether records are to have the time of day although no clock ticks by time.
-fn lacks_time(limits: Limits, stamp: &str) -> bool
+pub(crate) fn lacks_time(limits: Limits, stamp: &str) -> bool
     ensures { result ≡ lacks_time limits stamp.now }
 {
     stamp == "time" && limits.tick_ms == 0

@@ -172,5 +172,6 @@ fn is_top_key(key: &str) -> bool
     key == "network"
         || (key == "bridge"
             || (key == "link"
-                || (key == "service" || (key == "port" || (key == "event" || key == "accept")))))
+                || (key == "service"
+                    || (key == "port" || (key == "event" || (key == "tap" || key == "accept"))))))
 }

@@ -25,6 +25,8 @@ pub(crate) enum Rule {
     Stamp,
     /// The pace at which the frames of a capture enter: `times`.
     Replay,
+    /// The directions of a link that a tap records: `ab`, `ba` or `both`.
+    Direction,
     /// Any text.
     Path,
     /// A list of numbers that rises strictly.

@@ -15,6 +15,7 @@ pub(crate) enum Section {
     Service,
     Port,
     Event,
+    Tap,
 }
 
 /// The table that holds a key: the top of the file, the table of the network, or a table of an array. Tables of an
@@ -36,6 +37,7 @@ pub(crate) fn word_of(section: Section) -> &'static str
         Section::Service => "service",
         Section::Port => "port",
         Section::Event => "event",
+        Section::Tap => "tap",
     }
 }
 
@@ -46,7 +48,7 @@ pub(crate) fn most_of(section: Section) -> usize
     match section {
         Section::Bridge => 32,
         Section::Link | Section::Service => 64,
-        Section::Port | Section::Event => 128,
+        Section::Port | Section::Event | Section::Tap => 128,
     }
 }
 

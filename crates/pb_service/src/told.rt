@@ -5,10 +5,12 @@ ghost use Rattle.toml.specs.Data.{get_member};
 ghost use Rattle.toml.specs.View.{view, items_view, table_view};
 ghost use Rattle.pb_service.specs.Told.{number_told, flag_told, flag_in, text_told, items_told, state_of, spanning_of};
 ghost use Rattle.pb_service.specs.Told.{naturals_in, number_from, listed_from, has_key, queues_of, stamp_of};
+ghost use Rattle.pb_service.specs.Told.{direction_of};
 ghost use Rattle.pb_service.specs.declared.fault.PlanFault.TheVariants.{Memory as memory_fault};
 
 use crate::fault::PlanFault;
 use crate::port_spec::Stamp;
+use crate::tap::TapDirection;
 use crate::values::{has_text, natural_of, text_in};
 use pb_frame::{Seq, Text};
 use pb_lan::{PortState, Queues, Spanning};
@@ -140,6 +142,19 @@ pub(crate) fn stamp_of(text: &str) -> Stamp
         Stamp::Time
     } else {
         Stamp::Ticks
+    }
+}
+
+/// Returns the directions that a tap records. Any other text than `ab` and `ba` means both.
+pub(crate) fn direction_of(text: &str) -> TapDirection
+    ensures { result ≡ direction_of text.now }
+{
+    if text == "ab" {
+        TapDirection::Ab
+    } else if text == "ba" {
+        TapDirection::Ba
+    } else {
+        TapDirection::Both
     }
 }
 

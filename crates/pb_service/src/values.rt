@@ -186,6 +186,17 @@ fn is_replay(value: &Value) -> bool
     is_same(value, "times")
 }
 
+/// Returns whether the value is `ab`, `ba` or `both`.
+fn is_direction(value: &Value) -> bool
+    ensures { result ≡ is_text (λ t. same t (codes "ab") || (same t (codes "ba") || same t (codes "both")))
+        (view value.now) }
+{
+    match value.as_str() {
+        Some(text) => text == "ab" || (text == "ba" || text == "both"),
+        None => false,
+    }
+}
+
 /// Returns whether each item is an integer.
 fn are_integers(items: &[Value]) -> bool
     ensures { result ≡ all_items (λ e. is_some (as_integer e)) (items_view items.now) }
@@ -310,6 +321,7 @@ pub(crate) fn is_of_kind(rule: Rule, value: &Value) -> bool
         | Rule::PortKind
         | Rule::Stamp
         | Rule::Replay
+        | Rule::Direction
         | Rule::Path => value.is_str(),
     }
 }
@@ -330,6 +342,7 @@ pub(crate) fn is_allowed(rule: Rule, value: &Value) -> bool
         Rule::PortKind => is_port_kind(value),
         Rule::Stamp => is_stamp(value),
         Rule::Replay => is_replay(value),
+        Rule::Direction => is_direction(value),
         Rule::Path => value.is_str(),
         Rule::Losses => are_losses(value),
         Rule::Names => are_listed(value),

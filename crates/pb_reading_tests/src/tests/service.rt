@@ -7,6 +7,7 @@ mod lossless;
 mod order;
 mod plans;
 mod ranges;
+mod taps;
 
 use pb_service::{PlanFault, read_plan};
 use std::alloc::Global;

@@ -107,6 +107,15 @@ const FILES: &[(&str, &str)] = &[
         stamp = \"time\"",
         "8 no-such T",
     ),
+    ("[[tap]]\n[[event]]\n", "3 missing event[0].at"),
+    (
+        "port = 1\n[[tap]]\ndirection = 1\n",
+        "3 missing tap[0].link",
+    ),
+    (
+        "[[port]]\n[[tap]]\nlink = \"L\"\nwrite = \"w\"\nstamp = \"time\"\n",
+        "8 no-such L",
+    ),
 ];
 
 #[test]
