@@ -6,3 +6,4 @@ mod Meeting
 mod Lawful
 mod Kept
 mod SettledLemmas
+mod FreshTaps

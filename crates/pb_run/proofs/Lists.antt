@@ -7,7 +7,7 @@ use Rattle.std.proofs.lemmas.List.{map-append}
 use Rattle.std.proofs.lemmas.List.Elements.{All-same, All-cons}
 use Rattle.std.proofs.lemmas.Option.{slice_get_within, get_or_from_slice_get}
 use Rattle.std.specs.declared.option.Option.{Option}
-use Rattle.std.specs.List.{AllByRecursion, list_any}
+use Rattle.std.specs.List.{AllByRecursion, AllZip, list_any}
 use Rattle.pb_frame.proofs.Lists.{Some-injective, All-append as each-append}
 use Rattle.pb_frame.proofs.Things.{here_is, each_more}
 use Rattle.pb_lan.specs.declared.step.Step.{Step}
@@ -127,3 +127,17 @@ pub none_more : (test : Step → Bool) (olds news : List (List Step)) (steps : L
 none_more test olds news steps all grown none =
     subst (AllByRecursion (λ steps. list_any test steps ≡ false)) (sym grown)
     (each-append (λ steps. list_any test steps ≡ false) olds (steps ∷ []) all (none, tt))
+
+-- two lists whose items are related pair by pair, each extended by one
+zip_push : {X Y : Type 0} (R : X → Y → Type 0) (xs : List X) (ys : List Y) (x : X) (y : Y) → AllZip R xs ys → R x y
+    → AllZip R (xs ++ x ∷ []) (ys ++ y ∷ [])
+zip_push R [] [] x y each last = (last, tt)
+zip_push R [] (b ∷ ys) x y each last = absurd each
+zip_push R (a ∷ xs) [] x y each last = absurd each
+zip_push R (a ∷ xs) (b ∷ ys) x y each last = (each.0, zip_push R xs ys x y each.1 last)
+
+pub zip_more : {X Y : Type 0} (R : X → Y → Type 0) (xs : List X) (ys : List Y) (xs' : List X) (ys' : List Y)
+    (x : X) (y : Y) → xs' ≡ xs ++ x ∷ [] → ys' ≡ ys ++ y ∷ [] → AllZip R xs ys → R x y → AllZip R xs' ys'
+zip_more {X} {Y} R xs ys xs' ys' x y more more' each last =
+    subst (λ (us : List X). AllZip R us ys') (sym more)
+    (subst (λ (us : List Y). AllZip R (xs ++ x ∷ []) us) (sym more') (zip_push R xs ys x y each last))

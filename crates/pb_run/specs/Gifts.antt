@@ -40,7 +40,7 @@ pub record AreBridges (plan : Plan) (count : ℕ) (gifts : List BridgeGift) : Ty
 abbrev pub lane_over : ℕ → ℕ → ℕ → List ℕ → LaneGift
 lane_over number from to losses = record { number = number; from = from; to = to; losses = losses }
 
-abbrev pub given_lane : {X : Type 0} {W : Ghosts X} → LaneWorker X W → LaneGift
+abbrev pub given_lane : {X P : Type 0} {W : Ghosts X} → LaneWorker X P W → LaneGift
 given_lane w = lane_over w.number w.from.number w.to.number w.lane.losses
 
 abbrev pub lane_gift : ℕ → End → End → List ℕ → LaneGift

@@ -4,4 +4,5 @@ pub mod Workers
 pub mod Meetings
 pub mod Rooms
 pub mod Runs
+pub mod Taps
 pub mod Modes

@@ -21,10 +21,11 @@ pub record HasRoomFor (count : ℕ) (room : Gathered) : Type 0 where
   pub lists : IsEmptyFor count room.lists
 
 -- nothing is gathered yet, and there is capacity for each place of the plan
-pub record HasPlaceRooms (plan : Plan) (rooms : GatheredPlaces) : Type 0 where
+pub record HasPlaceRooms {P : Type 0} (plan : Plan) (rooms : GatheredPlaces P) : Type 0 where
   pub customers : HasRoomFor (length plan.customers) rooms.customers
   pub lanes : HasRoomFor (2 * length plan.links) rooms.lanes
   pub bridges : HasRoomFor (length plan.bridges) rooms.bridges
+  pub taps : IsEmptyFor (2 * length plan.links) rooms.taps
 
 -- the lists for the parts of this many customer ports' workers are empty, with capacity for them
 pub record HasPartRooms {A P : Type 0} (customers : ℕ) (rooms : Parts A P) : Type 0 where

@@ -10,14 +10,14 @@ use Rattle.pb_run.specs.declared.build.Built.{Built}
 use Rattle.pb_workers.specs.declared.lane.LaneWorker.{LaneWorker}
 
 -- the workers are those of all places of the plan, and no customer port has taken a step or reported its end
-pub record IsBuilt {X : Type 0} {W : Ghosts X} (plan : Plan) (built : Built X W) : Type 0 where
+pub record IsBuilt {X P : Type 0} {W : Ghosts X} (plan : Plan) (built : Built X P W) : Type 0 where
   pub accesses : AreAccesses plan (length plan.customers) (map given_access built.accesses.items)
   pub fresh : All (λ d. (d.place.steps ≡ []) × (d.book.last ≡ More)) built.accesses.items
   pub lanes : AreLanes plan (length plan.links) (map given_lane built.lanes.items)
   pub bridges : AreBridges plan (length plan.bridges) (map given_bridge built.bridges.items)
 
 -- the workers are those of all places of the plan, once they are back
-pub record AreBack {X : Type 0} {W : Ghosts X} (plan : Plan) (ds : List (Access X W)) (ls : List (LaneWorker X W)) (bs : List (BridgeWorker X W)) : Type 0 where
+pub record AreBack {X P : Type 0} {W : Ghosts X} (plan : Plan) (ds : List (Access X W)) (ls : List (LaneWorker X P W)) (bs : List (BridgeWorker X W)) : Type 0 where
   pub accesses : AreAccesses plan (length plan.customers) (map given_access ds)
   pub lanes : AreLanes plan (length plan.links) (map given_lane ls)
   pub bridges : AreBridges plan (length plan.bridges) (map given_bridge bs)
@@ -27,7 +27,7 @@ abbrev pub AreSameBridges : {X : Type 0} {W : Ghosts X} → List (BridgeWorker X
 AreSameBridges old new =
     (map given_bridge new ≡ map given_bridge old) × (map (λ b. b.bridge.steps) new ≡ map (λ b. b.bridge.steps) old)
 
-abbrev pub AreSameLanes : {X : Type 0} {W : Ghosts X} → List (LaneWorker X W) → List (LaneWorker X W) → Type 0
+abbrev pub AreSameLanes : {X P : Type 0} {W : Ghosts X} → List (LaneWorker X P W) → List (LaneWorker X P W) → Type 0
 AreSameLanes old new = (map given_lane new ≡ map given_lane old) × (map (λ l. l.lane.steps) new ≡ map (λ l. l.lane.steps) old)
 
 abbrev pub AreSameAccesses : {X : Type 0} {W : Ghosts X} → List (Access X W) → List (Access X W) → Type 0

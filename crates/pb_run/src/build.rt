@@ -14,6 +14,7 @@ ghost use Rattle.pb_run.specs.Wires.{ring_into, ring_out, AreRingsOf, HasInner, 
 ghost use Rattle.pb_run.specs.Workers.{IsBuilt};
 ghost use Rattle.pb_workers.specs.Workers.{IsModeFor};
 
+use crate::taps::{LaneTaps, next_taps};
 use crate::wires::{Ends, Ring};
 use pb_frame::{Memory, Seq};
 use pb_lan::{CustomerPlan, Plan};
@@ -25,11 +26,11 @@ use std::collections::VecDeque;
 
 /// The places of a run without their ports outside.
 #[derive(Drop)]
-pub(crate) struct Built<W: Wiring> {
+pub(crate) struct Built<W: Wiring, P> {
     /// The accesses of customer ports, without the ports outside.
     pub accesses: VecDeque<Access<W>>,
-    /// The workers of lanes.
-    pub lanes: Vec<LaneWorker<W>>,
+    /// The workers of lanes, with their taps.
+    pub lanes: Vec<LaneWorker<W, P>>,
     /// The workers of bridges.
     pub bridges: Vec<BridgeWorker<W>>,
 }
@@ -139,40 +140,42 @@ fn new_lane(alloc: Global, losses: &Seq<u64>, keeps: bool) -> Result<Lane, Memor
     Ok(Lane::counting(alloc, losses))
 }
 
-/// Returns the worker of a lane from one ring onto another, which loses the items of these numbers.
+/// Returns the worker of a lane from one ring onto another, which loses the items of these numbers and has these taps.
 ///
 /// # Errors
 ///
 /// `Memory` if an allocation failed.
-fn lane_worker<W: Wiring>(
+fn lane_worker<W: Wiring, P: Drop>(
     alloc: Global,
     number: u8,
     limit: usize,
     from: Inlet<W>,
     to: Outlet<W>,
     losses: &Seq<u64>,
+    taps: LaneTaps<P>,
     keeps: bool,
-) -> Result<LaneWorker<W>, Memory>
+) -> Result<LaneWorker<W, P>, Memory>
     requires kept { W.keeps ≡ true → keeps ≡ true }
     requires rings { (received from.end ≡ []) × (sent to.end ≡ []) }
     requires losses { Rises losses.now }
     ensures { IfOk result (λ worker. given_lane worker ≡ lane_over number from.number to.number losses.now) }
 {
     let lane = new_lane(alloc, losses, keeps)?;
-    Ok(LaneWorker::new(number, lane, from, to, limit))
+    Ok(LaneWorker::new(number, lane, from, to, taps.list, limit))
 }
 
-/// Returns the workers of a plan's lanes, two to a link.
+/// Returns the workers of a plan's lanes, two to a link, with their taps.
 ///
 /// # Errors
 ///
 /// `Memory` if an allocation failed.
-fn lane_workers<W: Wiring>(
+fn lane_workers<W: Wiring, P: Drop>(
     alloc: Global,
     plan: &Plan,
     ends: &mut Ends<W>,
+    mut taps: VecDeque<LaneTaps<P>>,
     keeps: bool,
-) -> Result<Vec<LaneWorker<W>>, Memory>
+) -> Result<Vec<LaneWorker<W, P>>, Memory>
     requires kept { W.keeps ≡ true → keeps ≡ true }
     requires sound { IsSound plan.now }
     requires there { AllByRecursion (HasOuter ends.old.outlets.items ends.old.inlets.items)
@@ -189,8 +192,9 @@ fn lane_workers<W: Wiring>(
         let (to_a, from_a) = ends.outer(link.a.bridge, link.a.port);
         let (to_b, from_b) = ends.outer(link.b.bridge, link.b.port);
         let (there, back) = (&link.lost_ab, &link.lost_ba);
-        workers.push(lane_worker(alloc, number, limit, from_a, to_b, there, keeps)?)?;
-        workers.push(lane_worker(alloc, number + 1, limit, from_b, to_a, back, keeps)?)?;
+        let (taps_ab, taps_ba) = next_taps(alloc, &mut taps);
+        workers.push(lane_worker(alloc, number, limit, from_a, to_b, there, taps_ab, keeps)?)?;
+        workers.push(lane_worker(alloc, number + 1, limit, from_b, to_a, back, taps_ba, keeps)?)?;
     }
     Ok(workers)
 }
@@ -257,18 +261,20 @@ fn accesses_of<W: Wiring>(
     Ok(accesses)
 }
 
-/// Returns the places of a plan, none of which has taken a step, over rings that nothing has passed. The mode says
-/// whether they keep their steps, whether bridges fulfil wishes, and whether items wait for full queues.
+/// Returns the places of a plan, none of which has taken a step, over rings that nothing has passed, with the taps of
+/// the lanes. The mode says whether they keep their steps, whether bridges fulfil wishes, and whether items wait for
+/// full queues.
 ///
 /// # Errors
 ///
 /// `Memory` if an allocation failed.
-pub(crate) fn places_of<W: Wiring>(
+pub(crate) fn places_of<W: Wiring, P: Drop>(
     alloc: Global,
     plan: &Plan,
     rings: Vec<Ring>,
+    taps: VecDeque<LaneTaps<P>>,
     mode: Mode,
-) -> Result<Built<W>, Memory>
+) -> Result<Built<W, P>, Memory>
     requires mode { IsModeFor W.keeps W.sets W.waits mode }
     requires sound { IsSound plan.now }
     requires rings { AreRingsOf plan.now W.rings rings }
@@ -276,7 +282,7 @@ pub(crate) fn places_of<W: Wiring>(
 {
     let mut ends = Ends::<W>::of(alloc, rings)?;
     let bridges = bridge_workers(alloc, plan, &mut ends, mode)?;
-    let lanes = lane_workers(alloc, plan, &mut ends, mode.keeps)?;
+    let lanes = lane_workers(alloc, plan, &mut ends, taps, mode.keeps)?;
     let accesses = accesses_of(alloc, plan, &mut ends, mode.keeps)?;
     Ok(Built {
         accesses,

@@ -13,17 +13,22 @@ mod outside;
 mod record;
 mod rooms;
 mod running;
+mod runs;
 mod settled;
+mod taps;
 mod wires;
 
 pub use ended::Ended;
 pub use fault::{RunCause, RunFault};
-pub use outside::Held;
+pub use outside::{Held, LaneTap};
 pub use pb_frame::Memory;
 pub use pb_lan::Limits;
+pub use pb_tap::{Recorder, Tap, Tape};
 pub use pb_threads::{Bells, Dropped, Gate, Go, PortView, StationView, Wish};
 pub use pb_workers::{
     Access, AccessGift, Book, BridgeGift, BridgeWorker, CustomerGift, CustomerWorker, LaneGift,
     LaneWorker, Last, Mode,
 };
-pub use running::{KeptRun, Ran, run, run_kept, run_set};
+pub use running::{KeptRun, Ran, TappedRun};
+pub use runs::{run, run_kept, run_set, run_tapped};
+pub use taps::{TapDirection, TapPort};

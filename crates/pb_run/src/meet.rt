@@ -60,10 +60,10 @@ pub(crate) fn meet_accesses<W: Wiring>(
 }
 
 /// Lets the ends of the ring from a bridge's port to the lane that leads away from it meet.
-fn meet_away<W: Wiring>(
+fn meet_away<W: Wiring, P>(
     plan: &Plan,
     bridges: &mut Vec<BridgeWorker<W>>,
-    lanes: &mut Vec<LaneWorker<W>>,
+    lanes: &mut Vec<LaneWorker<W, P>>,
     place: usize,
     from: &End,
 )
@@ -81,10 +81,10 @@ fn meet_away<W: Wiring>(
 }
 
 /// Lets the ends of the ring from a lane to the bridge's port to which it leads meet.
-fn meet_here<W: Wiring>(
+fn meet_here<W: Wiring, P>(
     plan: &Plan,
     bridges: &mut Vec<BridgeWorker<W>>,
-    lanes: &mut Vec<LaneWorker<W>>,
+    lanes: &mut Vec<LaneWorker<W, P>>,
     place: usize,
     to: &End,
 )
@@ -103,10 +103,10 @@ fn meet_here<W: Wiring>(
 }
 
 /// Lets the rings of a link's two lanes meet.
-fn meet_link<W: Wiring>(
+fn meet_link<W: Wiring, P>(
     plan: &Plan,
     bridges: &mut Vec<BridgeWorker<W>>,
-    lanes: &mut Vec<LaneWorker<W>>,
+    lanes: &mut Vec<LaneWorker<W, P>>,
     place: usize,
 )
     requires sound { IsSound plan.now }
@@ -129,10 +129,10 @@ fn meet_link<W: Wiring>(
 }
 
 /// Lets the rings of all lanes meet.
-pub(crate) fn meet_links<W: Wiring>(
+pub(crate) fn meet_links<W: Wiring, P>(
     plan: &Plan,
     bridges: &mut Vec<BridgeWorker<W>>,
-    lanes: &mut Vec<LaneWorker<W>>,
+    lanes: &mut Vec<LaneWorker<W, P>>,
 )
     requires sound { IsSound plan.now }
     requires bridges { AreBridges plan.now (length plan.now.bridges) (map given_bridge bridges.old.items) }

@@ -8,11 +8,15 @@ ghost use Rattle.pb_run.specs.Rooms.{IsPushed};
 
 use pb_port::Port;
 use pb_ring::Wiring;
+use pb_tap::Tap;
 use pb_workers::{Access, CustomerWorker, Last};
 use std::collections::VecDeque;
 
 /// A port that the caller made.
 pub type Held = Box<dyn Port + Send>;
+
+/// What a lane has for a file that records it.
+pub type LaneTap = Tap<Held>;
 
 /// Returns a worker for each port and its access, in order. Allocates nothing.
 pub(crate) fn attended<W: Wiring, P: Port>(

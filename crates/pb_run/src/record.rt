@@ -1,7 +1,7 @@
 //! The counts and steps of the places of a run once they are back.
 
 ghost use Rattle.std.specs.Prelude.{◌≡◌, ◌≤◌, ◌<◌, ◌++◌, ◌∷◌, [], All, true, false, map, vec_len, vec_capacity, IfOk};
-ghost use Rattle.std.specs.List.{AllByRecursion, list_any};
+ghost use Rattle.std.specs.List.{AllByRecursion, AllZip, list_any};
 ghost use Rattle.pb_lan.specs.BridgeLists.{IsLawfulBridge};
 ghost use Rattle.pb_lan.specs.LaneLists.{IsLawfulLane};
 ghost use Rattle.pb_lan.specs.Laws.{is_setting};
@@ -9,11 +9,13 @@ ghost use Rattle.pb_lan.specs.PortLists.{IsLawfulPort};
 ghost use Rattle.pb_relay.specs.Protocol.{spanning_tree};
 ghost use Rattle.pb_run.specs.Rooms.{HasRoomFor};
 ghost use Rattle.pb_workers.specs.Lossless.{refuses_when_full};
+ghost use Rattle.pb_workers.specs.Recording.{AreRecorded};
 
 use pb_frame::{Memory, Seq};
 use pb_history::{Steps, Tally};
 use pb_lan::Step;
 use pb_ring::Wiring;
+use pb_tap::Tap;
 use pb_workers::{Access, BridgeWorker, LaneWorker};
 use std::alloc::Global;
 
@@ -76,13 +78,19 @@ pub(crate) fn bridge_lists<W: Wiring>(workers: Vec<BridgeWorker<W>>, mut room: G
     room
 }
 
-/// Gathers the counts and steps of lanes. Allocates nothing.
-pub(crate) fn lane_lists<W: Wiring>(workers: Vec<LaneWorker<W>>, mut room: Gathered) -> Gathered
-    requires empty { (room.tallies.items ≡ []) × (room.lists.items ≡ []) }
-    requires room { (vec_len workers ≤ vec_capacity room.tallies) × (vec_len workers ≤ vec_capacity room.lists) }
+/// Gathers the counts and steps of lanes, and their taps. Allocates nothing.
+pub(crate) fn lane_lists<W: Wiring, P: Drop>(
+    workers: Vec<LaneWorker<W, P>>,
+    mut room: Gathered,
+    taps_room: &mut Vec<Vec<Tap<P>>>,
+) -> Gathered
+    requires empty { (room.tallies.items ≡ []) × (room.lists.items ≡ []) × (taps_room.old.items ≡ []) }
+    requires room { (vec_len workers ≤ vec_capacity room.tallies) × (vec_len workers ≤ vec_capacity room.lists)
+        × (vec_len workers ≤ vec_capacity taps_room.old) }
     ensures steps { result.tallies.items ≡ map (λ l. l.lane.steps) workers.items }
     ensures kept { W.keeps ≡ true → result.lists.items ≡ map (λ l. l.lane.steps) workers.items }
     ensures lawful { All (λ l. IsLawfulLane l.lane.losses l.lane.steps) workers.items }
+    ensures taps { AllZip (λ taps steps. AreRecorded taps.items steps) taps_room.new.items result.tallies.items }
 {
     for worker in workers {
         let LaneWorker {
@@ -90,9 +98,11 @@ pub(crate) fn lane_lists<W: Wiring>(workers: Vec<LaneWorker<W>>, mut room: Gathe
             lane,
             from: _,
             to: _,
+            taps,
             limit: _,
             finish: _,
         } = worker;
+        taps_room.push_reserved(taps);
         room.push(lane.into_steps());
     }
     room

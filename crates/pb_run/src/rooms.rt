@@ -9,18 +9,20 @@ use crate::record::Gathered;
 use pb_frame::Memory;
 use pb_lan::Plan;
 use pb_ring::Wiring;
+use pb_tap::Tap;
 use pb_workers::{Access, CustomerWorker};
 use std::alloc::Global;
 
-/// The counts and steps of customer ports, lanes and bridges.
+/// The counts and steps of customer ports, lanes and bridges, and the taps of lanes.
 #[derive(Drop)]
-pub(crate) struct GatheredPlaces {
+pub(crate) struct GatheredPlaces<P> {
     pub customers: Gathered,
     pub lanes: Gathered,
     pub bridges: Gathered,
+    pub taps: Vec<Vec<Tap<P>>>,
 }
 
-/// Empty lists with capacity for what comes back.
+/// Empty lists with capacity for what comes back. The ports outside and those of taps are of one type.
 #[derive(Drop)]
 pub(crate) struct Rooms<C, A, P> {
     /// The workers of customer ports.
@@ -28,7 +30,7 @@ pub(crate) struct Rooms<C, A, P> {
     /// The parts of these workers.
     pub parts: Parts<A, P>,
     /// The counts and steps of all places.
-    pub gathered: GatheredPlaces,
+    pub gathered: GatheredPlaces<P>,
 }
 
 /// The lists for places over rings of this wiring.
@@ -56,17 +58,19 @@ fn part_rooms<W: Wiring>(alloc: Global, customers: usize) -> Result<Parts<Access
 /// # Errors
 ///
 /// `Memory` if an allocation failed.
-fn place_rooms(alloc: Global, plan: &Plan) -> Result<GatheredPlaces, Memory>
+fn place_rooms<P>(alloc: Global, plan: &Plan) -> Result<GatheredPlaces<P>, Memory>
     requires { IsSound plan.now }
     ensures { IfOk result (HasPlaceRooms plan.now) }
 {
     let bridges = Gathered::with_room(alloc, plan.bridges.len())?;
     let lanes = Gathered::with_room(alloc, 2 * plan.links.len())?;
     let customers = Gathered::with_room(alloc, plan.customers.len())?;
+    let taps = Vec::with_capacity(alloc, 2 * plan.links.len())?;
     Ok(GatheredPlaces {
         customers,
         lanes,
         bridges,
+        taps,
     })
 }
 
@@ -80,7 +84,7 @@ pub(crate) fn rooms_of<W: Wiring>(alloc: Global, plan: &Plan) -> Result<RoomsOf<
     ensures { IfOk result (HasRooms plan.now) }
 {
     let customers = plan.customers.len();
-    let gathered = place_rooms(alloc, plan)?;
+    let gathered = place_rooms::<Held>(alloc, plan)?;
     let parts = part_rooms(alloc, customers)?;
     Ok(Rooms {
         workers: Vec::with_capacity(alloc, customers)?,

@@ -1,25 +1,24 @@
 //! A run of a whole plan.
 
-ghost use Rattle.std.specs.Prelude.{◌≡◌, true, false, IfOk, IfErr, length, map, vec_len};
-ghost use Rattle.pb_lan.specs.Laws.{AreTracedFromStart};
+ghost use Rattle.std.specs.Prelude.{◌≡◌, IfOk, IfErr, length, map, vec_len};
 ghost use Rattle.pb_lan.specs.Plans.{IsSound};
-ghost use Rattle.pb_lan.specs.declared.plan.Spanning.TheVariants.{Fixed};
 ghost use Rattle.pb_run.specs.Modes.{FollowsMode};
 ghost use Rattle.pb_run.specs.Rooms.{HasPlaceRooms, HasRooms};
 ghost use Rattle.pb_run.specs.Runs.{IsTrueRecord, IsRun, HasNotRun};
+ghost use Rattle.pb_run.specs.Taps.{ComesBack};
 ghost use Rattle.pb_run.specs.Wires.{AreRingsOf};
 ghost use Rattle.pb_run.specs.Workers.{IsBuilt, AreBack};
-ghost use Rattle.pb_workers.specs.Lossless.{NoFullQueueRefuses};
 ghost use Rattle.pb_workers.specs.Workers.{IsModeFor};
 
 use crate::build::{Built, places_of};
 use crate::ended::{Causes, Ended, ended_by};
 use crate::fault::{RunCause, RunFault, cause_of};
 use crate::meet::{meet_accesses, meet_links};
-use crate::outside::{Held, Parts, apart, attended};
+use crate::outside::{Held, LaneTap, Parts, apart, attended};
 use crate::record::{access_lists, bridge_lists, lane_lists};
 use crate::rooms::{GatheredPlaces, RoomsOf, rooms_of};
 use crate::settled::whether_settled;
+use crate::taps::{TapPort, taps_of};
 use crate::wires::{Ring, new_rings};
 use pb_frame::{Memory, Seq};
 use pb_history::Tallies;
@@ -59,15 +58,34 @@ pub struct KeptRun {
     pub rec: Record,
 }
 
-/// The counts and the record of the places that are back.
+/// The result of a run with taps.
+#[derive(Drop)]
+pub struct TappedRun {
+    /// The result that each run has.
+    pub ran: Ran,
+    /// The taps of each lane, in the order of the lanes: two of each link, first that from `a` to `b`. The taps of one
+    /// lane are in the order in which they were given.
+    pub taps: Vec<Vec<LaneTap>>,
+}
+
+/// The result of a run, whether its places keep their steps and have taps or not.
+#[derive(Drop)]
+pub(crate) struct WholeRun {
+    pub ran: Ran,
+    pub rec: Record,
+    pub taps: Vec<Vec<LaneTap>>,
+}
+
+/// The counts and the record of the places that are back, and the taps of the lanes.
 #[derive(Drop)]
 struct Told {
     counts: Tallies,
     rec: Record,
+    taps: Vec<Vec<LaneTap>>,
 }
 
 /// The places of a run over rings of this wiring.
-type PlacesOf<W> = Places<CustomerWorker<W, Held>, LaneWorker<W>, BridgeWorker<W>>;
+type PlacesOf<W> = Places<CustomerWorker<W, Held>, LaneWorker<W, Held>, BridgeWorker<W>>;
 
 /// Returns the reasons for which the workers ended.
 fn causes_of<W: Wiring>(places: &PlacesOf<W>) -> Causes {
@@ -87,13 +105,14 @@ fn causes_of<W: Wiring>(places: &PlacesOf<W>) -> Causes {
     causes
 }
 
-/// Returns the counts and the record of places that are back, after the ends of all rings have met. Allocates nothing.
+/// Returns the counts and the record of places that are back, after the ends of all rings have met, and the taps of the
+/// lanes. Allocates nothing.
 fn told_of<W: Wiring>(
     plan: &Plan,
     accesses: Vec<Access<W>>,
-    lanes: Vec<LaneWorker<W>>,
+    lanes: Vec<LaneWorker<W, Held>>,
     bridges: Vec<BridgeWorker<W>>,
-    rooms: GatheredPlaces,
+    rooms: GatheredPlaces<Held>,
 ) -> Told
     requires sound { IsSound plan.now }
     requires back { AreBack plan.now accesses.items lanes.items bridges.items }
@@ -102,13 +121,14 @@ fn told_of<W: Wiring>(
     ensures mode { FollowsMode W.sets W.waits result.counts }
     ensures customers { result.counts.customers ≡ map (λ d. d.place.steps) accesses.items }
     ensures bridges { result.counts.bridges ≡ map (λ b. b.bridge.steps) bridges.items }
-    ensures kept { W.keeps ≡ true → result.rec ≡ result.counts }
+    ensures back { ComesBack W.keeps result.counts result.rec result.taps.items }
 {
     let (mut accesses, mut lanes, mut bridges) = (accesses, lanes, bridges);
     meet_accesses(plan, &mut bridges, &mut accesses);
     meet_links(plan, &mut bridges, &mut lanes);
+    let mut taps = rooms.taps;
     let bridges = bridge_lists(bridges, rooms.bridges);
-    let lanes = lane_lists(lanes, rooms.lanes);
+    let lanes = lane_lists(lanes, rooms.lanes, &mut taps);
     let customers = access_lists(accesses, rooms.customers);
     Told {
         counts: Tallies::new(bridges.tallies, lanes.tallies, customers.tallies),
@@ -117,6 +137,7 @@ fn told_of<W: Wiring>(
             lanes: Seq::from_vec(lanes.lists),
             customers: Seq::from_vec(customers.lists),
         },
+        taps,
     }
 }
 
@@ -131,11 +152,11 @@ fn run_built<W: Wiring + Send, G: Gate, R: Threads + Wait + Clock + Sync>(
     alloc: Global,
     plan: &Plan,
     ports: Vec<Held>,
-    built: Built<W>,
+    built: Built<W, Held>,
     rooms: RoomsOf<W>,
     gate: &G,
     limits: Limits,
-) -> Result<KeptRun, RunFault>
+) -> Result<WholeRun, RunFault>
     requires sound { IsSound plan.now }
     requires count { vec_len ports ≡ length plan.now.customers }
     requires built { IsBuilt plan.now built }
@@ -143,7 +164,7 @@ fn run_built<W: Wiring + Send, G: Gate, R: Threads + Wait + Clock + Sync>(
     ensures run { IfOk result (λ kept. IsRun (λ b. script b) (λ b. tally b) plan.now ports kept.ran.ports
         kept.ran.counts kept.ran.last.items kept.ran.ended kept.ran.settled) }
     ensures mode { IfOk result (λ kept. FollowsMode W.sets W.waits kept.ran.counts) }
-    ensures rec { IfOk result (λ kept. W.keeps ≡ true → kept.rec ≡ kept.ran.counts) }
+    ensures back { IfOk result (λ kept. ComesBack W.keeps kept.ran.counts kept.rec kept.taps.items) }
     ensures failed { IfErr result (λ fault. (fault.cause ≡ RunCause.PortCount → ⊥)
         × (fault.ports.items ≡ ports.items)) }
 {
@@ -166,7 +187,7 @@ fn run_built<W: Wiring + Send, G: Gate, R: Threads + Wait + Clock + Sync>(
         return Err(RunFault { cause, ports });
     }
     let settled = whether_settled(alloc, plan, places.bridges.as_slice());
-    let Told { counts, rec } = told_of(
+    let Told { counts, rec, taps } = told_of(
         plan,
         accesses,
         places.lanes,
@@ -181,7 +202,28 @@ fn run_built<W: Wiring + Send, G: Gate, R: Threads + Wait + Clock + Sync>(
         ended,
         settled,
     };
-    Ok(KeptRun { ran, rec })
+    Ok(WholeRun { ran, rec, taps })
+}
+
+/// Returns the places of a plan over rings, with the taps of its lanes.
+///
+/// # Errors
+///
+/// `Memory` if an allocation failed.
+fn tapped_places<W: Wiring>(
+    alloc: Global,
+    plan: &Plan,
+    rings: Vec<Ring>,
+    taps: Vec<TapPort>,
+    mode: Mode,
+) -> Result<Built<W, Held>, Memory>
+    requires mode { IsModeFor W.keeps W.sets W.waits mode }
+    requires sound { IsSound plan.now }
+    requires rings { AreRingsOf plan.now W.rings rings }
+    ensures { IfOk result (IsBuilt plan.now) }
+{
+    let taps = taps_of(alloc, 2 * plan.links.len(), taps)?;
+    places_of::<W, Held>(alloc, plan, rings, taps, mode)
 }
 
 /// Builds the workers of a plan over rings, whose ends are known by number, and runs them.
@@ -196,10 +238,11 @@ fn run_wired<W: Wiring + Send, G: Gate, R: Threads + Wait + Clock + Sync>(
     plan: &Plan,
     ports: Vec<Held>,
     rings: Vec<Ring>,
+    taps: Vec<TapPort>,
     gate: &G,
     limits: Limits,
     mode: Mode,
-) -> Result<KeptRun, RunFault>
+) -> Result<WholeRun, RunFault>
     requires mode { IsModeFor W.keeps W.sets W.waits mode }
     requires sound { IsSound plan.now }
     requires count { vec_len ports ≡ length plan.now.customers }
@@ -207,12 +250,12 @@ fn run_wired<W: Wiring + Send, G: Gate, R: Threads + Wait + Clock + Sync>(
     ensures run { IfOk result (λ kept. IsRun (λ b. script b) (λ b. tally b) plan.now ports kept.ran.ports
         kept.ran.counts kept.ran.last.items kept.ran.ended kept.ran.settled) }
     ensures mode { IfOk result (λ kept. FollowsMode W.sets W.waits kept.ran.counts) }
-    ensures rec { IfOk result (λ kept. W.keeps ≡ true → kept.rec ≡ kept.ran.counts) }
+    ensures back { IfOk result (λ kept. ComesBack W.keeps kept.ran.counts kept.rec kept.taps.items) }
     ensures failed { IfErr result (λ fault. (fault.cause ≡ RunCause.PortCount → ⊥)
         × (fault.ports.items ≡ ports.items)) }
 {
     let (Ok(built), Ok(rooms)) = (
-        places_of::<W>(alloc, plan, rings, mode),
+        tapped_places::<W>(alloc, plan, rings, taps, mode),
         rooms_of::<W>(alloc, plan),
     ) else {
         let cause = RunCause::Memory;
@@ -221,25 +264,26 @@ fn run_wired<W: Wiring + Send, G: Gate, R: Threads + Wait + Clock + Sync>(
     run_built(rt, alloc, plan, ports, built, rooms, gate, limits)
 }
 
-/// Runs a plan whose places work in this mode.
+/// Runs a plan whose places work in this mode, with these taps.
 ///
 /// # Errors
 ///
-/// Those of [`run`].
-fn run_places<G: Gate, R: Threads + Wait + Clock + Sync>(
+/// Those of [`run`](crate::run).
+pub(crate) fn run_places<G: Gate, R: Threads + Wait + Clock + Sync>(
     rt: &R,
     alloc: Global,
     plan: &Plan,
     ports: Vec<Held>,
+    taps: Vec<TapPort>,
     gate: &G,
     limits: Limits,
     mode: Mode,
-) -> Result<KeptRun, RunFault>
+) -> Result<WholeRun, RunFault>
     requires { IsSound plan.now }
     ensures run { IfOk result (λ kept. IsRun (λ b. script b) (λ b. tally b) plan.now ports kept.ran.ports
         kept.ran.counts kept.ran.last.items kept.ran.ended kept.ran.settled) }
     ensures mode { IfOk result (λ kept. FollowsMode mode.sets mode.waits kept.ran.counts) }
-    ensures rec { IfOk result (λ kept. mode.keeps ≡ true → kept.rec ≡ kept.ran.counts) }
+    ensures back { IfOk result (λ kept. ComesBack mode.keeps kept.ran.counts kept.rec kept.taps.items) }
     ensures failed { IfErr result (λ fault. HasNotRun plan.now ports fault.ports fault.cause) }
 {
     if ports.len() != plan.customers.len() {
@@ -250,125 +294,5 @@ fn run_places<G: Gate, R: Threads + Wait + Clock + Sync>(
         let cause = RunCause::Memory;
         return Err(RunFault { cause, ports });
     };
-    run_wired::<Brand, G, R>(rt, alloc, plan, ports, rings, gate, limits, mode)
-}
-
-/// Runs a sound plan: one worker for each bridge, lane and customer port, in threads of their own, with rings between
-/// them. No worker takes a step before all are started. A bridge ticks by turns or by milliseconds, as the limits say.
-/// No wish of the gate is fulfilled: see [`run_set`].
-///
-/// Steps are only counted: the memory of a run does not grow with them. Contracts see the record of what all places
-/// did. It is lawful, and the laws hold of it, whatever the schedule was:
-///
-/// - Each departure has the octets of an arrival at a port of the same service, less a priority S-tag.
-/// - A frame that was handled under a forest leaves each other port at most once, never its own port, and no port
-///   outside its tree.
-/// - A group frame that was neither refused nor lost, and has drained, leaves each other port of its service in its
-///   tree once.
-/// - No frame is multiplied.
-/// - Frames of one port and one priority keep their order.
-///
-/// For each port that keeps a script, the script before the run is what entered followed by the script that remains.
-/// For each port that keeps a tally, the tally after the run is the tally before followed by what left.
-///
-/// If the run is to be lossless, an item waits on its ring while a queue is full to which its bridge may copy it. No
-/// bridge refuses a copy of a frame because a queue is full. Over a loop of links frames can wait for each other: then
-/// the run does not end by itself.
-///
-/// If the plan gives the states of the ports, none changes: each frame of a service for which the start is a forest was
-/// handled under that forest.
-///
-/// The run has drained exactly if every port came to its end and no frame is on its way. `settled` reports whether the
-/// bridges have converged after all their steps.
-///
-/// # Errors
-///
-/// `PortCount` exactly if the number of ports is not the number of customer ports of the plan, `Memory` if an
-/// allocation for the workers failed, `Spawn` if a worker could not be started. The ports come back unchanged: none was
-/// polled, and none was offered a frame.
-pub fn run<G: Gate, R: Threads + Wait + Clock + Sync>(
-    rt: &R,
-    alloc: Global,
-    plan: &Plan,
-    ports: Vec<Held>,
-    gate: &G,
-    limits: Limits,
-    is_lossless: bool,
-) -> Result<Ran, RunFault>
-    requires { IsSound plan.now }
-    ensures run { IfOk result (λ ran. IsRun (λ b. script b) (λ b. tally b) plan.now ports ran.ports
-        ran.counts ran.last.items ran.ended ran.settled) }
-    ensures planned { IfOk result (λ ran. plan.now.spanning ≡ Fixed → AreTracedFromStart plan.now ran.counts) }
-    ensures lossless { IfOk result (λ ran. is_lossless ≡ true → NoFullQueueRefuses ran.counts) }
-    ensures failed { IfErr result (λ fault. HasNotRun plan.now ports fault.ports fault.cause) }
-{
-    let mode = Mode {
-        waits: is_lossless,
-        ..Mode::COUNTED
-    };
-    let KeptRun { ran, rec: _ } = run_places(rt, alloc, plan, ports, gate, limits, mode)?;
-    Ok(ran)
-}
-
-/// Runs a sound plan as [`run`] does. Meanwhile bridges enable and disable their ports to other bridges, as the gate
-/// wishes. A wish for any other port does nothing. Each such setting is a step of its bridge like any other. The record
-/// is lawful all the same, and all that follows from that holds.
-///
-/// If the plan gives the states of the ports, and none was set, each frame of a service for which the start is a forest
-/// was handled under that forest.
-///
-/// # Errors
-///
-/// Those of [`run`].
-pub fn run_set<G: Gate, R: Threads + Wait + Clock + Sync>(
-    rt: &R,
-    alloc: Global,
-    plan: &Plan,
-    ports: Vec<Held>,
-    gate: &G,
-    limits: Limits,
-    is_lossless: bool,
-) -> Result<Ran, RunFault>
-    requires { IsSound plan.now }
-    ensures run { IfOk result (λ ran. IsRun (λ b. script b) (λ b. tally b) plan.now ports ran.ports
-        ran.counts ran.last.items ran.ended ran.settled) }
-    ensures lossless { IfOk result (λ ran. is_lossless ≡ true → NoFullQueueRefuses ran.counts) }
-    ensures failed { IfErr result (λ fault. HasNotRun plan.now ports fault.ports fault.cause) }
-{
-    let mode = Mode {
-        waits: is_lossless,
-        ..Mode::SET
-    };
-    let KeptRun { ran, rec: _ } = run_places(rt, alloc, plan, ports, gate, limits, mode)?;
-    Ok(ran)
-}
-
-/// Runs a sound plan as [`run`] does, with places that keep their steps, and returns their record too. The memory of
-/// the run grows with each step.
-///
-/// # Errors
-///
-/// Those of [`run`].
-pub fn run_kept<G: Gate, R: Threads + Wait + Clock + Sync>(
-    rt: &R,
-    alloc: Global,
-    plan: &Plan,
-    ports: Vec<Held>,
-    gate: &G,
-    limits: Limits,
-    is_lossless: bool,
-) -> Result<KeptRun, RunFault>
-    requires { IsSound plan.now }
-    ensures run { IfOk result (λ kept. IsRun (λ b. script b) (λ b. tally b) plan.now ports kept.ran.ports
-        kept.rec kept.ran.last.items kept.ran.ended kept.ran.settled) }
-    ensures planned { IfOk result (λ kept. plan.now.spanning ≡ Fixed → AreTracedFromStart plan.now kept.rec) }
-    ensures lossless { IfOk result (λ kept. is_lossless ≡ true → NoFullQueueRefuses kept.rec) }
-    ensures counts { IfOk result (λ kept. kept.ran.counts ≡ kept.rec) }
-    ensures failed { IfErr result (λ fault. HasNotRun plan.now ports fault.ports fault.cause) }
-{
-    let mode = Mode {
-        waits: is_lossless,
-        ..Mode::KEPT
-    };
-    run_places(rt, alloc, plan, ports, gate, limits, mode)
+    run_wired::<Brand, G, R>(rt, alloc, plan, ports, rings, taps, gate, limits, mode)
 }

@@ -17,5 +17,6 @@ mod runs;
 mod spanning;
 mod stops;
 mod streams;
+mod taps;
 mod told;
 mod wishes;

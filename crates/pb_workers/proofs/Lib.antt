@@ -1,3 +1,4 @@
 pub mod UsedPorts
 pub mod ReceiveLemmas
 pub mod RoomLemmas
+pub mod Recorded

@@ -46,7 +46,7 @@ IsPortKept script tally worker =
     KeepsPort script tally worker.was.value worker.port worker.access.place.steps worker.access.book.last
 
 -- a lane's worker keeps its number, the numbers of its rings, and the losses of its lane
-pub record IsSameLane {X : Type 0} {W : Ghosts X} (old new : LaneWorker X W) : Type 0 where
+pub record IsSameLane {X P : Type 0} {W : Ghosts X} (old new : LaneWorker X P W) : Type 0 where
   pub number : new.number ≡ old.number
   pub from : new.from.number ≡ old.from.number
   pub to : new.to.number ≡ old.to.number

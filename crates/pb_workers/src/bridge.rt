@@ -274,7 +274,7 @@ impl<W: Wiring> BridgeWorker<W> {
 
     /// Lets the ends of the ring from this bridge's local port to a lane meet, once both workers are back. What the
     /// lane took is a beginning of what the bridge transmitted.
-    pub fn meet_lane_away(&mut self, port: u8, lane: &mut LaneWorker<W>)
+    pub fn meet_lane_away<P>(&mut self, port: u8, lane: &mut LaneWorker<W, P>)
         requires port { (0 < port) × (port ≤ vec_len self.old.ins.ends) }
         requires ring { slice_index_or (map (λ o. o.number) self.old.outs.ends.items) (port - 1) 0
             ≡ lane.old.from.number }
@@ -290,7 +290,7 @@ impl<W: Wiring> BridgeWorker<W> {
 
     /// Lets the ends of the ring from a lane to this bridge's local port meet, once both workers are back. What the
     /// bridge received is a beginning of what the lane put.
-    pub fn meet_lane_here(&mut self, port: u8, lane: &mut LaneWorker<W>)
+    pub fn meet_lane_here<P>(&mut self, port: u8, lane: &mut LaneWorker<W, P>)
         requires port { (0 < port) × (port ≤ vec_len self.old.ins.ends) }
         requires ring { slice_index_or (map (λ i. i.number) self.old.ins.ends.items) (port - 1) 0 ≡ lane.old.to.number }
         ensures off { IsBeginning (received port self.old.bridge.steps) (put lane.old.lane.steps) }

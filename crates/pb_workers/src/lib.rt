@@ -15,6 +15,7 @@ mod gift;
 mod lane;
 mod mode;
 mod receipt;
+mod recording;
 mod refusal;
 mod room;
 mod stations;

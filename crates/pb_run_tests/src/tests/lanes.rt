@@ -8,6 +8,7 @@ use bytes::Bytes;
 use pb_frame::Memory;
 use pb_lan::{FrameNumber, Item, Mark, Place, Seq};
 use pb_link::Lane;
+use pb_port::MemoryPort;
 use pb_ring::{Inlet, Outlet, Wiring};
 use pb_run::LaneWorker;
 use pb_threads::{Finish, Moment, Turn, TurnStatus, Work};
@@ -46,16 +47,21 @@ fn worker_of<W: Wiring>(
     alloc: Global,
     from: Consumer<Item>,
     to: Producer<Item>,
-) -> Result<LaneWorker<W>, Memory>
+) -> Result<LaneWorker<W, MemoryPort>, Memory>
     requires from { (slice_get W.rings 0 ≡ Some (reader_name from)) × (received from ≡ []) }
     requires to { (slice_get W.rings 1 ≡ Some (writer_name to)) × (sent to ≡ []) }
 {
     let lane = Lane::new(alloc, Seq::from_vec(vec![in alloc; 1u64]?));
-    Ok(LaneWorker::new(3, lane, Inlet::new(from, 0), Outlet::new(to, 1), 5))
+    let (from, to) = (Inlet::new(from, 0), Outlet::new(to, 1));
+    Ok(LaneWorker::new(3, lane, from, to, Vec::new(alloc), 5))
 }
 
 /// Checks whether the worker's next turn has this status, and subtracts this much from what is left to do.
-fn has_status<W: Wiring>(worker: &mut LaneWorker<W>, status: TurnStatus, fewer: u64) -> bool {
+fn has_status<W: Wiring>(
+    worker: &mut LaneWorker<W, MemoryPort>,
+    status: TurnStatus,
+    fewer: u64,
+) -> bool {
     worker.turn(STILL)
         == Turn {
             status,
@@ -97,7 +103,7 @@ const ROWS: &[Row] = &[
 fn holds<W: Wiring>(
     alloc: Global,
     near: &mut Producer<Item>,
-    worker: &mut LaneWorker<W>,
+    worker: &mut LaneWorker<W, MemoryPort>,
     far: &mut Consumer<Item>,
     row: Row,
 ) -> Result<bool, Memory> {
@@ -127,7 +133,7 @@ fn carry<W: Wiring>(alloc: Global, from: Ring, to: Ring) -> Result<bool, Memory>
 }
 
 /// Checks whether the worker keeps the reason why it was closed, and the five steps that it took.
-fn is_closed<W: Wiring>(worker: &mut LaneWorker<W>) -> bool {
+fn is_closed<W: Wiring>(worker: &mut LaneWorker<W, MemoryPort>) -> bool {
     worker.close(STILL, Finish::Limit);
     worker.finish == Some(Finish::Limit) && worker.lane.steps().len() == 5
 }

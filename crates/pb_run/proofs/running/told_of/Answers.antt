@@ -9,6 +9,7 @@ use Rattle.pb_lan.proofs.Headline.{faithful}
 use Rattle.pb_lan.proofs.Stillness.{planned_states_stay, still_frames_are_traced}
 use Rattle.pb_history.specs.Tallied.{record_of}
 use Rattle.pb_workers.specs.Lossless.{refuses_when_full}
+use Rattle.pb_run.specs.Taps.{AreTapped}
 use Rattle.pb_run.proofs.Lawful.{lawful_workers}
 use Rattle.pb_run.proofs.running.told_of.Goals as goal
 
@@ -49,11 +50,15 @@ returns-clause-mode g c = record {
       (sym c.new.ensures) (c.bridge_lists-bridges.ensures.whole waits);
 }
 
-pub returns-clause-kept : goal.returns-clause-kept
-returns-clause-kept g c = λ keeps.
-    let bridges = c.bridge_lists-bridges.ensures in
-    let lanes = c.lane_lists-lanes.ensures in
-    let customers = c.access_lists-customers.ensures in
-    same_records _ _ _ _ _ _ (c.from_vec.ensures ∙ bridges.kept keeps ∙ sym bridges.steps)
-    (c.from_vec-2.ensures ∙ lanes.kept keeps ∙ sym lanes.steps)
-    (c.from_vec-3.ensures ∙ customers.kept keeps ∙ sym customers.steps) ∙ sym c.new.ensures
+pub returns-clause-back : goal.returns-clause-back
+returns-clause-back g c = (
+  λ keeps.
+      let bridges = c.bridge_lists-bridges.ensures in
+      let lanes = c.lane_lists-lanes.ensures in
+      let customers = c.access_lists-customers.ensures in
+      same_records _ _ _ _ _ _ (c.from_vec.ensures ∙ bridges.kept keeps ∙ sym bridges.steps)
+      (c.from_vec-2.ensures ∙ lanes.kept keeps ∙ sym lanes.steps)
+      (c.from_vec-3.ensures ∙ customers.kept keeps ∙ sym customers.steps) ∙ sym c.new.ensures,
+  subst (λ (r : Record). AreTapped r.lanes c.lane_lists-lanes.new.taps_room.items) (sym c.new.ensures)
+      c.lane_lists-lanes.ensures.taps,
+)

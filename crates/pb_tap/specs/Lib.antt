@@ -1,0 +1,3 @@
+pub mod Crossings
+pub mod Takings
+pub mod Taps

@@ -1,0 +1,12 @@
+use Rattle.std.proofs.Common.{◌≡◌, length}
+use Rattle.std.specs.List.{AllWithin}
+use Rattle.pb_tap.specs.Taps.{IsPrepared}
+use Rattle.pb_workers.specs.Recording.{own_lists}
+use Rattle.pb_workers.proofs.recording.prepare_all.Given as goal
+
+abbrev pub invariant-loop-index : goal.invariant-loop-index
+invariant-loop-index g l = record {
+  own : own_lists l.taps.items ≡ own_lists l.initial.taps.items;
+  ready : AllWithin (IsPrepared l.wire) l.taps.items 0 l.index;
+  count : length l.taps.items ≡ length l.initial.taps.items;
+}
