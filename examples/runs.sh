@@ -325,6 +325,13 @@ same out/record.report examples/record.report
 same out/provider.pcap examples/captures/provider.pcap
 same out/camera.pcap examples/captures/camera.pcap
 
+begin "run tap.toml"
+runs out/tap.report run --strict examples/tap.toml
+ended 0
+same out/tap.report examples/tap.report
+same out/trunk-ab.pcap examples/captures/trunk-ab.pcap
+same out/trunk-ba.pcap examples/captures/trunk-ba.pcap
+
 begin "run captures.toml"
 runs out/captures.report run examples/captures.toml
 ended 0

@@ -17,6 +17,18 @@ name_at [] place = []
 name_at (customer ∷ customers) zero = customer.name
 name_at (customer ∷ customers) (suc place) = name_at customers place
 
+-- the name of the link of a tap, or nothing
+abbrev pub link_of : List (List ℕ) → ℕ → List ℕ
+link_of [] index = []
+link_of (link ∷ links) zero = link
+link_of (link ∷ links) (suc index) = link_of links index
+
+-- the user of files at a place, from 0: a customer port, or a tap after these, by its link
+abbrev pub user_at : List CustomerPlan → List (List ℕ) → ℕ → List ℕ
+user_at [] taps place = codes "tap of link " ++ link_of taps place
+user_at (customer ∷ customers) taps zero = codes "port " ++ customer.name
+user_at (customer ∷ customers) taps (suc place) = user_at customers taps place
+
 -- the word for the use that a port makes of a path
 abbrev pub word_of : Verb → List ℕ
 word_of Read = codes "read"
@@ -24,27 +36,29 @@ word_of Write = codes "write"
 word_of Connect = codes "connect"
 word_of Listen = codes "listen"
 
--- the line with a port's name, the use that it makes of a path, and why it could not; control characters of the path
--- are escaped
+-- the line with a user, the use that it makes of a path, and why it could not; control characters of the path are
+-- escaped
 abbrev pub path_line : List ℕ → List ℕ → List ℕ → List ℕ → List ℕ
-path_line name word path why =
-    codes "port " ++ name ++ codes ": " ++ word ++ codes " " ++ printable path ++ codes ": " ++ why ++ 10 ∷ []
+path_line user word path why =
+    user ++ codes ": " ++ word ++ codes " " ++ printable path ++ codes ": " ++ why ++ 10 ∷ []
 
 -- the text about the other user of a file
-abbrev pub sharing : List CustomerPlan → FileUser → List ℕ
-sharing customers (Writer place) = codes "also written by port " ++ name_at customers place
-sharing customers (Reader place) = codes "also read by port " ++ name_at customers place
-sharing customers Plan = codes "also the plan file"
+abbrev pub sharing : List CustomerPlan → List (List ℕ) → FileUser → List ℕ
+sharing customers taps (Writer place) = codes "also written by " ++ user_at customers taps place
+sharing customers taps (Reader place) = codes "also read by " ++ user_at customers taps place
+sharing customers taps Plan = codes "also the plan file"
 
 -- the line about the path of a fault was written, with the error of the system
-abbrev pub TellsPath : List CustomerPlan → PathFault → Option (List ℕ) → Option (List ℕ) → Type 0
-TellsPath customers fault before after =
-    (why : List ℕ) × Appends before after (path_line (name_at customers fault.place) (word_of fault.verb) fault.path why)
+abbrev pub TellsPath : List CustomerPlan → List (List ℕ) → PathFault → Option (List ℕ) → Option (List ℕ) → Type 0
+TellsPath customers taps fault before after =
+    (why : List ℕ) × Appends before after
+    (path_line (user_at customers taps fault.place) (word_of fault.verb) fault.path why)
 
 -- the line about a fault was written, or nothing if an allocation had failed
-abbrev pub TellsFault : List CustomerPlan → OpenFault → Option (List ℕ) → Option (List ℕ) → Type 0
-TellsFault customers (Unopened fault) before after = TellsPath customers fault before after
-TellsFault customers (Unemptied fault) before after = TellsPath customers fault before after
-TellsFault customers (Shared file) before after =
-    Appends before after (path_line (name_at customers file.place) (codes "write") file.path (sharing customers file.other))
-TellsFault customers Memory before after = Keeps before after
+abbrev pub TellsFault : List CustomerPlan → List (List ℕ) → OpenFault → Option (List ℕ) → Option (List ℕ) → Type 0
+TellsFault customers taps (Unopened fault) before after = TellsPath customers taps fault before after
+TellsFault customers taps (Unemptied fault) before after = TellsPath customers taps fault before after
+TellsFault customers taps (Shared file) before after =
+    Appends before after
+    (path_line (user_at customers taps file.place) (codes "write") file.path (sharing customers taps file.other))
+TellsFault customers taps Memory before after = Keeps before after

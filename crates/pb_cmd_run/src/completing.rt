@@ -1,14 +1,14 @@
-//! Captures after a run: files to which no frame was written become captures without records, and those to which a write
-//! failed end with a whole record.
+//! Captures after a run: files to which no frame was written become captures without records, and those to which a
+//! write failed end with a whole record.
 
 ghost use Rattle.std.specs.Prelude.{◌≡◌, OnOk};
 ghost use Rattle.std.specs.Io.KnownBytes.{Appends};
 ghost use Rattle.pb_port.specs.Spelling.{file_header};
 
 use crate::cut::{WriteError, cut};
-use crate::telling::{name_at, show_path_fault};
+use crate::telling::show_path_fault;
+use crate::users::Users;
 use pb_frame::Text;
-use pb_lan::CustomerPlan;
 use pb_run_ports::Verb;
 use std::alloc::Global;
 use std::fs::{File, Files};
@@ -27,10 +27,10 @@ pub(crate) struct WrittenFile {
     pub error: Arc<WriteError, Global>,
 }
 
-/// The capture files of a port of a network.
+/// The capture files of a port or a tap of a network.
 #[derive(Drop)]
 pub(crate) struct CaptureFiles {
-    /// The port's place in the plan, from 0.
+    /// The place of the port or the tap among the users of files.
     pub place: usize,
     /// The path of the file that it reads, if it reads one.
     pub read: Option<Text>,
@@ -72,8 +72,8 @@ fn complete(file: &File) -> io::Result<()> {
     Ok(())
 }
 
-/// Completes the file of a port: an empty file becomes a capture without records, and a file to which a write failed
-/// keeps its whole records.
+/// Completes the file of a port or a tap: an empty file becomes a capture without records, and a file to which a write
+/// failed keeps its whole records.
 ///
 /// # Errors
 ///
@@ -88,11 +88,11 @@ fn finish<R: Files<File = File>>(rt: &R, alloc: Global, written: &WrittenFile) -
     }
 }
 
-/// Completes the files of the ports. Writes a line to `errors` for each to which a write failed.
+/// Completes the files of ports and taps. Writes a line to `errors` for each to which a write failed.
 pub(crate) fn complete_all<R: Files<File = File>, E: Write>(
     rt: &R,
     alloc: Global,
-    customers: &[CustomerPlan],
+    users: Users<'_>,
     files: &[CaptureFiles],
     errors: &mut E,
 ) {
@@ -101,9 +101,8 @@ pub(crate) fn complete_all<R: Files<File = File>, E: Write>(
             continue;
         };
         if let Err(error) = finish(rt, alloc, written) {
-            let name = name_at(customers, captures.place);
-            let path = written.path.as_str();
-            show_path_fault(alloc, name, Verb::Write, path, &error, errors);
+            let (place, path) = (captures.place, written.path.as_str());
+            show_path_fault(alloc, users, place, Verb::Write, path, &error, errors);
         }
     }
 }

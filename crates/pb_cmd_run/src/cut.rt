@@ -53,8 +53,8 @@ impl WriteError {
     }
 }
 
-/// Reads a record of a capture into a buffer of at least 65,535 octets. Returns its number of octets, or `None` if it is
-/// not whole.
+/// Reads a record of a capture into a buffer of at least 65,535 octets. Returns its number of octets, or `None` if it
+/// is not whole.
 fn record_length<R: Read>(reader: &mut R, buffer: &mut [u8]) -> Option<u64>
     requires { 65535 ≤ length buffer.old }
 {

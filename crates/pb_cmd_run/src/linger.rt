@@ -3,7 +3,7 @@
 ghost use Rattle.std.specs.Prelude.{◌≡◌, length};
 
 use pb_port::{Port, Pumped};
-use pb_run::{Held, Ran};
+use pb_run::{Held, LaneTap, Recorder, TappedRun};
 use pb_run_control::Traffic;
 use std::thread;
 use std::time::{Clock, Duration, Instant};
@@ -13,6 +13,9 @@ const PAUSE: u64 = 1;
 
 /// The maximum number of tries.
 const MOST_TRIES: u32 = 10_000_000;
+
+/// The maximum number of times that taps write before the time counts.
+const MOST_DRAINS: u32 = 4_096;
 
 /// The highest number of ticks that a port is given.
 const MOST_TICKS: u64 = 4_294_967_295;
@@ -59,6 +62,47 @@ fn try_all(ports: &mut [Held], ticks: u32) -> Try {
     came
 }
 
+/// Has a tap write the frames that its file takes, at this number of ticks.
+fn try_tap(tap: &mut LaneTap, ticks: u32) -> Try {
+    match tap.record(ticks, true) {
+        Ok(true) => Try::Moved,
+        _ if is_waiting(tap) => Try::Waiting,
+        _ => Try::Over,
+    }
+}
+
+/// Checks whether frames wait in a tap that could be written.
+fn is_waiting(tap: &mut LaneTap) -> bool {
+    match &mut tap.recorder {
+        Recorder::Tape(tape) => !tape.is_gone && tape.unwritten() > 0,
+        Recorder::Feeder(_) => false,
+    }
+}
+
+/// Has each tap write the frames that its file takes, at this number of ticks.
+fn try_taps(lanes: &mut [Vec<LaneTap>], ticks: u32, ports: Try) -> Try {
+    let mut came = ports;
+    for taps in lanes {
+        for tap in taps {
+            match try_tap(tap, ticks) {
+                Try::Moved => came = Try::Moved,
+                Try::Waiting if came == Try::Over => came = Try::Waiting,
+                _ => {}
+            }
+        }
+    }
+    came
+}
+
+/// Has each tap write what has come over rings until the last lane ended.
+fn drain_taps(lanes: &mut [Vec<LaneTap>], ticks: u32) {
+    for _ in 0..MOST_DRAINS {
+        if try_taps(lanes, ticks, Try::Over) != Try::Moved {
+            return;
+        }
+    }
+}
+
 /// Returns whether so many milliseconds have passed since a moment. Returns true if the clock can't be read.
 fn is_past<R: Clock>(rt: &R, start: Instant, millis: u32) -> bool {
     match start.elapsed(rt) {
@@ -67,9 +111,15 @@ fn is_past<R: Clock>(rt: &R, start: Instant, millis: u32) -> bool {
     }
 }
 
-/// Has ports write until no frame waits that could be written, or the time is over.
-fn write_on<R: Clock>(rt: &R, ports: &mut [Held], lingering: Lingering<'_>) {
+/// Has ports and taps write until no frame waits that could be written, or the time is over.
+fn write_on<R: Clock>(
+    rt: &R,
+    ports: &mut [Held],
+    lanes: &mut [Vec<LaneTap>],
+    lingering: Lingering<'_>,
+) {
     let ticks = lingering.traffic.ticks().min(MOST_TICKS) as u32;
+    drain_taps(lanes, ticks);
     let Ok(start) = Instant::now(rt) else {
         return;
     };
@@ -77,7 +127,8 @@ fn write_on<R: Clock>(rt: &R, ports: &mut [Held], lingering: Lingering<'_>) {
         if is_past(rt, start, lingering.millis) {
             return;
         }
-        match try_all(ports, ticks) {
+        let ports = try_all(ports, ticks);
+        match try_taps(lanes, ticks, ports) {
             Try::Moved => {}
             Try::Waiting => thread::sleep(rt, Duration::from_millis(PAUSE)),
             Try::Over => return,
@@ -85,16 +136,16 @@ fn write_on<R: Clock>(rt: &R, ports: &mut [Held], lingering: Lingering<'_>) {
     }
 }
 
-/// Gives the ports of a run time to write the frames that wait in them, and returns when none waits that could be
-/// written or the time is over. All other results of the run stay as they are.
-pub(crate) fn lingered<R: Clock>(rt: &R, ran: Ran, lingering: Lingering<'_>) -> Ran
-    ensures counts { result.counts ≡ ran.counts }
-    ensures last { result.last ≡ ran.last }
-    ensures ended { result.ended ≡ ran.ended }
-    ensures settled { result.settled ≡ ran.settled }
-    ensures ports { length result.ports.items ≡ length ran.ports.items }
+/// Gives the ports and taps of a run time to write the frames that wait in them, and returns when none waits that could
+/// be written or the time is over. All other results of the run stay as they are.
+pub(crate) fn lingered<R: Clock>(rt: &R, run: TappedRun, lingering: Lingering<'_>) -> TappedRun
+    ensures counts { result.ran.counts ≡ run.ran.counts }
+    ensures last { result.ran.last ≡ run.ran.last }
+    ensures ended { result.ran.ended ≡ run.ran.ended }
+    ensures settled { result.ran.settled ≡ run.ran.settled }
+    ensures ports { length result.ran.ports.items ≡ length run.ran.ports.items }
 {
-    let mut ran = ran;
-    write_on(rt, ran.ports.as_mut_slice(), lingering);
-    ran
+    let TappedRun { mut ran, mut taps } = run;
+    write_on(rt, ran.ports.as_mut_slice(), taps.as_mut_slice(), lingering);
+    TappedRun { ran, taps }
 }

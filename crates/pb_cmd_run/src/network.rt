@@ -1,42 +1,37 @@
 //! Runs of the networks of plan files.
 
-ghost use Rattle.std.specs.Prelude.{◌≡◌, ◌≢◌, ◌⊎◌, length, map, vec_len, string_bytes, List, ℕ, IfOk, IfErr, OnOk};
+ghost use Rattle.std.specs.Prelude.{◌≡◌, ◌≢◌, ◌⊎◌, length, map, vec_len, List, ℕ, IfOk, IfErr, OnOk};
 ghost use Rattle.std.specs.Io.KnownBytes.{Appends, Keeps};
 ghost use Rattle.pb_lan.specs.Plans.{IsSound};
-ghost use Rattle.pb_relay.specs.Settled.{TellsSettled};
 ghost use Rattle.pb_service.specs.PlanFiles.{Tells, IsPlanOf, RefusesFile};
 ghost use Rattle.pb_service.specs.declared.port_spec.PortSpec.{PortSpec};
 ghost use Rattle.pb_report.specs.Refusals.{refusal_line};
 ghost use Rattle.pb_cmd_run.specs.Faults.{ComesOf};
-ghost use Rattle.pb_cmd_run.specs.Networks.{PrintsReport, PrintsRan, PrintsNetwork};
+ghost use Rattle.pb_cmd_run.specs.Networks.{PrintsRan, PrintsNetwork};
 ghost use Rattle.pb_cmd_run.specs.Scripted.{script_at};
 ghost use Rattle.pb_run_ports.specs.Opened.{script_in};
-ghost use Rattle.pb_run_losses.specs.Strict.{lost_text};
-ghost use Rattle.pb_run_losses.specs.declared.strictness.Strictness.TheVariants.{Strict as strict};
 
 use crate::attended::Attended;
 use crate::completing::{CaptureFiles, complete_all};
-use crate::linger::{Lingering, lingered};
+use crate::linger::Lingering;
 use crate::network_fault::NetworkFault;
+use crate::outcome::tell_run;
 use crate::outside::{Outside, SystemPort, open_ports};
-use crate::pcapng::show_pcapng;
 use crate::peer::remove_sockets;
 use crate::plug::plug;
-use crate::port_faults::show_port_faults;
-use crate::report::write_report;
 use crate::settings::RunSettings;
 use crate::socket_ports::Attendance;
 use crate::stalls::show_stalls;
+use crate::taps::{SystemTap, TapPlace, link_names};
+use crate::users::Users;
 use crate::watched::Watched;
-use pb_frame::Memory;
-use pb_history::Tallies;
 use pb_lan::{Limits, Plan, Spanning};
 use pb_messages::write_whole;
 use pb_report::write_refusal;
-use pb_run::{Held, Ran, run_set};
+use pb_run::{Held, TapPort, run_tapped};
 use pb_run_control::{RunProgress, Steering, Traffic};
-use pb_run_losses::{Strictness, dropped_of, exit_status, is_whole, lost_of, transit_of};
-use pb_service::{PlanFault, PlanFile, PortSpec, read_plan_file};
+use pb_run_losses::Strictness;
+use pb_service::{PlanFault, PlanFile, PortSpec, TapSpec, read_plan_file};
 use std::alloc::Global;
 use std::fs::{File, Files};
 use std::io::Write;
@@ -64,50 +59,10 @@ fn refuse<W: Write>(alloc: Global, fault: &PlanFault, writer: &mut W) -> Result<
     Ok(REFUSED)
 }
 
-/// Returns the loss report of a run. If an allocation for it fails, it is empty for a lenient run.
-///
-/// # Errors
-///
-/// `Memory` if an allocation failed in a strict run.
-fn lost_under(
-    alloc: Global,
-    strictness: Strictness,
-    plan: &Plan,
-    ports: &[Held],
-    counts: &Tallies,
-    settled: &Result<Option<bool>, Memory>,
-) -> Result<String, NetworkFault>
-    requires sound { IsSound plan.now }
-    requires ports { length ports.now ≡ length plan.now.customers }
-    requires lists { length counts.now.customers ≡ length plan.now.customers }
-    ensures err { IfErr result (λ e. e ≡ NetworkFault.Memory) }
-    ensures ok { IfOk result (λ text. strictness ≡ strict →
-        string_bytes text ≡ lost_text plan.now counts.now settled.now (map (λ b. waiting b) ports.now)) }
-{
-    match lost_of(alloc, plan, ports, counts, settled) {
-        Ok(lost) => Ok(lost),
-        Err(_) if strictness == Strictness::Lenient => Ok(String::new(alloc)),
-        Err(_) => Err(NetworkFault::Memory),
-    }
-}
-
 /// Writes a text to `errors`, unless it is empty. A failed write is ignored.
 pub(crate) fn show<E: Write>(text: &str, errors: &mut E) {
     if !text.is_empty() {
         let _ = write_whole(errors, text.as_bytes());
-    }
-}
-
-/// Writes the counts of dropped frames that are no losses to `errors`, and that of frames in transit. They are left out
-/// if an allocation fails.
-fn show_drops<E: Write>(alloc: Global, plan: &Plan, counts: &Tallies, errors: &mut E)
-    requires { IsSound plan.now }
-{
-    if let Ok(text) = dropped_of(alloc, plan, counts) {
-        show(text.as_str(), errors);
-    }
-    if let Ok(text) = transit_of(alloc, counts) {
-        show(text.as_str(), errors);
     }
 }
 
@@ -133,41 +88,6 @@ fn show_left<E: Write>(alloc: Global, left: u64, errors: &mut E) {
     }
 }
 
-/// Writes the report of a run and its losses, and returns the exit status.
-///
-/// # Errors
-///
-/// `Write` if the report can't be written. `Memory` if an allocation failed for the report, or for the losses of a
-/// strict run, and then nothing of the report was written. There are no other errors.
-fn tell<W: Write, E: Write>(
-    alloc: Global,
-    strictness: Strictness,
-    plan: &Plan,
-    ran: &Ran,
-    writer: &mut W,
-    errors: &mut E,
-) -> Result<u8, NetworkFault>
-    requires sound { IsSound plan.now }
-    requires settled { IfOk ran.now.settled (TellsSettled plan.now ran.now.counts) }
-    requires lasts { length ran.now.last.items ≡ length plan.now.customers }
-    requires ports { length ran.now.ports.items ≡ length plan.now.customers }
-    requires lists { length ran.now.counts.customers ≡ length plan.now.customers }
-    ensures ok { IfOk result (λ status. PrintsReport strictness plan.now ran.now.counts ran.now.ended ran.now.settled
-        ran.now.last.items status
-        (W.contents writer.old) (W.contents writer.new)) }
-    ensures kinds { IfErr result (λ e. (e ≡ NetworkFault.Write) ⊎ (e ≡ NetworkFault.Memory)) }
-    ensures none { IfErr result (λ e. e ≢ NetworkFault.Write → Keeps (W.contents writer.old) (W.contents writer.new)) }
-{
-    let ports = ran.ports.as_slice();
-    let lost = lost_under(alloc, strictness, plan, ports, &ran.counts, &ran.settled)?;
-    let told = write_report(alloc, plan, ran, writer)?;
-    show_port_faults(alloc, plan, ran, errors);
-    show(lost.as_str(), errors);
-    show_drops(alloc, plan, &ran.counts, errors);
-    let is_whole = is_whole(ran.ended, lost.as_str());
-    Ok(exit_status(strictness, is_whole, told))
-}
-
 /// Runs a plan with its ports, some of which have these capture files, and reports on the run as [`run_network`] does.
 ///
 /// # Errors
@@ -180,7 +100,9 @@ fn run_ports<R, G: RunProgress, W: Write, E: Write>(
     rt: &R,
     alloc: Global,
     plan: &Plan,
+    users: Users<'_>,
     ports: Vec<Watched<SystemPort>>,
+    taps: Vec<SystemTap>,
     files: &[CaptureFiles],
     limits: Limits,
     is_lossless: bool,
@@ -205,20 +127,46 @@ where
         let port: Held = Box::new(alloc, port)?;
         held.push(port)?;
     }
-    match run_set(rt, alloc, plan, held, gate, limits, is_lossless) {
-        Ok(ran) => {
+    let mut recorders = Vec::with_capacity(alloc, taps.len())?;
+    for tap in taps {
+        let SystemTap { place, port } = tap;
+        let TapPlace { link, direction } = place;
+        let port: Held = Box::new(alloc, port)?;
+        recorders.push(TapPort {
+            link,
+            direction,
+            port,
+        })?;
+    }
+    match run_tapped(rt, alloc, plan, held, recorders, gate, limits, is_lossless) {
+        Ok(run) => {
             gate.close();
-            let ran = lingered(rt, ran, lingering);
-            let customers = plan.customers.as_slice();
-            complete_all(rt, alloc, customers, files, errors);
-            show_pcapng(rt, alloc, customers, files, ran.last.as_slice(), errors);
-            tell(alloc, strictness, plan, &ran, writer, errors)
+            tell_run(
+                rt, alloc, strictness, plan, users, files, run, lingering, writer, errors,
+            )
         }
         Err(fault) => {
             gate.close();
-            complete_all(rt, alloc, plan.customers.as_slice(), files, errors);
+            complete_all(rt, alloc, users, files, errors);
             Err(NetworkFault::from(fault.cause))
         }
+    }
+}
+
+/// Returns the gate of a run that attends to its ports too.
+fn attended<'a, R, G>(
+    rt: &'a R,
+    gate: &'a G,
+    plan: &'a Plan,
+    duty: Attendance,
+) -> Attended<'a, R, G> {
+    Attended {
+        rt,
+        gate,
+        customers: plan.customers.as_slice(),
+        doors: Mutex::new(duty.doors),
+        watches: duty.watches,
+        clocks: duty.clocks,
     }
 }
 
@@ -232,6 +180,7 @@ fn run_opened<R, G: RunProgress, W: Write, E: Write>(
     alloc: Global,
     plan: &Plan,
     specs: Vec<PortSpec>,
+    taps: Vec<TapSpec>,
     limits: Limits,
     is_lossless: bool,
     strictness: Strictness,
@@ -257,29 +206,29 @@ where
     };
     let path = settings.plan;
     let mut duty = Attendance::new(alloc);
+    let names = link_names(alloc, plan, taps.as_slice())?;
+    let users = Users {
+        customers: plan.customers.as_slice(),
+        taps: names.as_slice(),
+    };
     let outside = open_ports(
-        rt, alloc, path, plan, specs, limits, traffic, &mut duty, errors,
+        rt, alloc, path, plan, users, specs, taps, limits, traffic, &mut duty, errors,
     )?;
     let Outside {
         ports,
+        taps,
         files,
         sockets,
     } = outside;
-    let files = files.as_slice();
-    let gate = Attended {
-        rt,
-        gate,
-        customers: plan.customers.as_slice(),
-        doors: Mutex::new(duty.doors),
-        watches: duty.watches,
-        clocks: duty.clocks,
-    };
+    let gate = attended(rt, gate, plan, duty);
     let ran = run_ports(
         rt,
         alloc,
         plan,
+        users,
         ports,
-        files,
+        taps,
+        files.as_slice(),
         limits,
         is_lossless,
         strictness,
@@ -307,11 +256,13 @@ where
 /// it, and the spanning tree decides the states of ports by clocks that tick, no frame enters before the bridges seem
 /// to have converged or have ticked 200 times. The gate receives which of the two it was.
 ///
-/// After the run the ports have time to write the frames that wait in them, as the settings say. An output file to
+/// Meanwhile the file's taps capture what crosses links, S-tags and BPDUs included.
+///
+/// After the run ports and taps have time to write the frames that wait in them, as the settings say. An output file to
 /// which nothing was written becomes a capture without records, or `errors` reports why it can't. Sockets that ports
 /// made are removed. `errors` names the inputs that are pcapng. After the report it has the losses ([`lost_of`]), the
-/// other dropped frames ([`dropped_of`]) and the frames in transit ([`transit_of`]). A strict run that had losses or did
-/// not end drained has the status 4 in place of 0.
+/// other dropped frames ([`dropped_of`]), the frames in transit ([`transit_of`]) and those that taps did not write. A
+/// strict run that had losses or did not end drained has the status 4 in place of 0.
 ///
 /// # Errors
 ///
@@ -352,6 +303,7 @@ where
                 limits,
                 is_lossless,
                 events,
+                taps,
             },
         ) => {
             if is_lossless {
@@ -366,6 +318,7 @@ where
                 alloc,
                 &plan,
                 ports,
+                taps,
                 limits,
                 is_lossless,
                 strictness,

@@ -6,26 +6,29 @@ ghost use Rattle.pb_run_ports.specs.Opened.{script_in, shown};
 ghost use Rattle.pb_cmd_run.specs.Scripted.{script_at};
 
 use crate::any_port::AnyPort;
-use crate::completing::{CaptureFiles, WrittenFile};
-use crate::cut::WriteError;
+use crate::completing::CaptureFiles;
+use crate::file_ports::{
+    FilePort, capture_port, day_scale, put_files, record_port, replay_port, scale_of, sink_of,
+};
 use crate::input::Input;
 use crate::network_fault::NetworkFault;
-use crate::pacing::{PacedInput, paced, unpaced};
+use crate::pacing::paced;
 use crate::peer::{Peer, SocketFile, remove_sockets};
-use crate::sink::Sink;
 use crate::socket_ports::{Attendance, socket_port};
 use crate::system::{Output, System};
+use crate::taps::{SystemTap, TapPlace, put_taps, taps_of};
 use crate::telling::show_open_fault;
+use crate::users::Users;
 use crate::visits::Visits;
 use crate::watch::Post;
 use crate::watched::Watched;
 use bytes::Bytes;
-use pb_frame::{Seq, Text};
+use pb_frame::Seq;
 use pb_lan::{Limits, Plan};
-use pb_port::{CapturePort, MemoryPort, Over, SocketPort, StayingPort, Timescale};
+use pb_port::{MemoryPort, Over, SocketPort, StayingPort, Timescale};
 use pb_run_control::Traffic;
 use pb_run_ports::{Opened, open_all};
-use pb_service::{PortSpec, Stamp};
+use pb_service::{PortSpec, TapSpec};
 use std::alloc::{AllocError, Global};
 use std::collections::VecDeque;
 use std::fs::{File, Files};
@@ -33,9 +36,6 @@ use std::io::Write;
 use std::net::Net;
 use std::sync::Arc;
 use std::time::Clock;
-
-/// A port over files of the system: over two captures or over one.
-type FilePort = CapturePort<PacedInput, Over<Sink>>;
 
 /// A port over memory, over files of the system or over a socket of the system.
 pub(crate) type SystemPort = AnyPort<
@@ -46,11 +46,12 @@ pub(crate) type SystemPort = AnyPort<
 >;
 
 /// The open files or the open socket of a port.
-type SystemOpened = Opened<Input, Output, Peer>;
+pub(crate) type SystemOpened = Opened<Input, Output, Peer>;
 
-/// The ports of a network, the files of those over captures, and the sockets that some of them made.
+/// The ports and taps of a network, the files of those over captures, and the sockets that some of them made.
 pub(crate) struct Outside {
     pub ports: Vec<Watched<SystemPort>>,
+    pub taps: Vec<SystemTap>,
     pub files: Vec<CaptureFiles>,
     pub sockets: Vec<SocketFile>,
 }
@@ -74,116 +75,6 @@ fn script_of(alloc: Global, frames: Seq<Bytes>) -> Result<VecDeque<Bytes>, Alloc
         script.push_back(frame)?;
     }
     Ok(script)
-}
-
-/// The maximum time of tick 0, in microseconds since 1970.
-const LATEST: u64 = 4_611_686_018_427_387_903;
-
-/// Returns the scale of a clock that shows the time of day: tick 0 is now, and each tick has `tick_ms` milliseconds. If
-/// the system's clock can't be read, tick 0 is the beginning of 1970.
-fn day_scale<R: Clock>(rt: &R, tick_ms: u64) -> Timescale {
-    let start = match rt.since_1970() {
-        Ok(time) => time
-            .as_secs()
-            .saturating_mul(1_000_000)
-            .saturating_add(u64::from(time.subsec_micros())),
-        Err(_) => 0,
-    };
-    Timescale {
-        start: start.min(LATEST),
-        tick: (tick_ms.min(60_000) * 1_000) as u32,
-    }
-}
-
-/// Returns the scale of the time stamps of a capture.
-fn scale_of(stamp: Stamp, day: Timescale) -> Timescale {
-    match stamp {
-        Stamp::Ticks => Timescale::ticks(),
-        Stamp::Time => day,
-    }
-}
-
-/// Parts the two handles of a file that a port writes: that of the port, and that which is kept until the run is over.
-/// Both have the error of a write.
-///
-/// # Errors
-///
-/// `AllocError` if an allocation failed.
-fn parted(alloc: Global, output: Output, path: Text) -> Result<(Sink, WrittenFile), AllocError> {
-    let Output { file, twin, .. } = output;
-    let error = Arc::new(alloc, WriteError::none())?;
-    let sink = Sink::File(file, Arc::try_clone(&error)?);
-    let written = WrittenFile {
-        path,
-        file: twin,
-        error,
-    };
-    Ok((sink, written))
-}
-
-/// Appends the files of a port.
-///
-/// # Errors
-///
-/// `AllocError` if an allocation failed.
-fn put_files(
-    files: &mut Vec<CaptureFiles>,
-    place: usize,
-    read: Option<Text>,
-    written: Option<WrittenFile>,
-) -> Result<(), AllocError> {
-    files.push(CaptureFiles {
-        place,
-        read,
-        written,
-    })?;
-    Ok(())
-}
-
-/// Returns what a port at a place writes to. Its files, with that which it reads, are appended to `files`.
-///
-/// # Errors
-///
-/// `AllocError` if an allocation failed.
-fn sink_of(
-    alloc: Global,
-    files: &mut Vec<CaptureFiles>,
-    place: usize,
-    read: Option<Text>,
-    output: Output,
-    write: Text,
-) -> Result<Sink, AllocError> {
-    let (sink, written) = parted(alloc, output, write)?;
-    put_files(files, place, read, Some(written))?;
-    Ok(sink)
-}
-
-/// Returns a port that reads one capture and writes another.
-fn capture_port(
-    alloc: Global,
-    capacity: u16,
-    scale: Timescale,
-    input: PacedInput,
-    sink: Sink,
-) -> FilePort
-    requires { (0 < capacity) × (capacity ≤ 4096) }
-{
-    CapturePort::on_scale(alloc, capacity, scale, input, Over::new(sink))
-}
-
-/// Returns a port that writes a capture and that no frame enters.
-fn record_port(alloc: Global, capacity: u16, scale: Timescale, sink: Sink) -> FilePort
-    requires { (0 < capacity) × (capacity ≤ 4096) }
-{
-    let (input, sink) = (unpaced(Input::Empty), Over::new(sink));
-    CapturePort::recording(alloc, capacity, scale, input, sink)
-}
-
-/// Returns a port that reads a capture and drops the frames that leave.
-fn replay_port(alloc: Global, capacity: u16, input: PacedInput) -> FilePort
-    requires { (0 < capacity) × (capacity ≤ 4096) }
-{
-    CapturePort::new(alloc, capacity, input, Over::new(Sink::Nowhere))
 }
 
 /// Returns the port at a place of the plan over its open files or its open socket. The files of a port over captures
@@ -305,8 +196,8 @@ fn ports_of(
     Ok(ports)
 }
 
-/// Opens the files and sockets of a plan, as [`open_all`] does. Writes a line to `errors` for a file or socket that
-/// can't be opened.
+/// Opens the files and sockets of ports and taps, as [`open_all`] does. Writes a line to `errors` for a file or socket
+/// that can't be opened.
 ///
 /// # Errors
 ///
@@ -316,7 +207,7 @@ fn open_system<R: Files<File = File> + Net, E: Write>(
     rt: &R,
     alloc: Global,
     plan_path: &str,
-    plan: &Plan,
+    users: Users<'_>,
     specs: Vec<PortSpec>,
     errors: &mut E,
 ) -> Result<OpenSystem, NetworkFault>
@@ -337,14 +228,64 @@ fn open_system<R: Files<File = File> + Net, E: Write>(
         }
         Err(fault) => {
             remove_sockets(rt, system.sockets.as_slice());
-            show_open_fault(alloc, plan.customers.as_slice(), &fault, errors);
+            show_open_fault(alloc, users, &fault, errors);
             Err(NetworkFault::from(fault))
         }
     }
 }
 
-/// Opens the ports of a plan that was read at `plan_path`. Their frames are counted in `traffic`. The gate attends to
-/// their sockets.
+/// The open files and sockets of the ports of a network, and of its taps.
+struct OpenParts {
+    ports: Vec<SystemOpened>,
+    taps: Vec<SystemOpened>,
+    places: Vec<TapPlace>,
+    sockets: Vec<SocketFile>,
+}
+
+/// Opens the ports and taps of a plan, of which the users of files are these. Writes a line to `errors` for a file or
+/// socket that can't be opened.
+///
+/// # Errors
+///
+/// `Path` if a file or socket can't be opened or a file has two uses, `Memory` if an allocation failed. Sockets that
+/// were made are removed then. There are no other errors.
+fn open_parts<R: Files<File = File> + Net, E: Write>(
+    rt: &R,
+    alloc: Global,
+    plan_path: &str,
+    users: Users<'_>,
+    specs: Vec<PortSpec>,
+    taps: Vec<TapSpec>,
+    errors: &mut E,
+) -> Result<OpenParts, NetworkFault>
+    ensures count { IfOk result (λ parts. vec_len parts.ports ≡ vec_len specs) }
+    ensures scripts { IfOk result (λ parts. map (λ port. (shown port).frames) parts.ports.items
+        ≡ map script_in specs.items) }
+    ensures err { IfErr result (λ e. (e ≡ NetworkFault.Path) ⊎ (e ≡ NetworkFault.Memory)) }
+{
+    let count = specs.len();
+    let mut all = specs;
+    let mut places = Vec::new(alloc);
+    put_taps(&mut all, &mut places, taps)?;
+    let system = open_system(rt, alloc, plan_path, users, all, errors)?;
+    let OpenSystem { opened, sockets } = system;
+    let mut ports = opened;
+    match ports.split_off(count) {
+        Ok(taps) => Ok(OpenParts {
+            ports,
+            taps,
+            places,
+            sockets,
+        }),
+        Err(_) => {
+            remove_sockets(rt, sockets.as_slice());
+            Err(NetworkFault::Memory)
+        }
+    }
+}
+
+/// Opens the ports and taps of a plan that was read at `plan_path`. The frames of ports are counted in `traffic`. The
+/// gate attends to their sockets.
 ///
 /// # Errors
 ///
@@ -355,7 +296,9 @@ pub(crate) fn open_ports<R: Files<File = File> + Net + Clock, E: Write>(
     alloc: Global,
     plan_path: &str,
     plan: &Plan,
+    users: Users<'_>,
     specs: Vec<PortSpec>,
+    taps: Vec<TapSpec>,
     limits: Limits,
     traffic: &Arc<Traffic, Global>,
     duty: &mut Attendance,
@@ -368,17 +311,26 @@ pub(crate) fn open_ports<R: Files<File = File> + Net + Clock, E: Write>(
         ≡ map script_in specs.items) }
     ensures err { IfErr result (λ e. (e ≡ NetworkFault.Path) ⊎ (e ≡ NetworkFault.Memory)) }
 {
-    let system = open_system(rt, alloc, plan_path, plan, specs, errors)?;
-    let OpenSystem { opened, sockets } = system;
+    let parts = open_parts(rt, alloc, plan_path, users, specs, taps, errors)?;
+    let OpenParts {
+        ports: opened,
+        taps: recorded,
+        places,
+        sockets,
+    } = parts;
     let day = day_scale(rt, limits.tick_ms);
+    let first = opened.len();
     let mut files = Vec::new(alloc);
-    match ports_of(rt, alloc, plan, day, opened, traffic, &mut files, duty) {
-        Ok(ports) => Ok(Outside {
+    let ports = ports_of(rt, alloc, plan, day, opened, traffic, &mut files, duty);
+    let taps = taps_of(alloc, first, places.as_slice(), day, recorded, &mut files);
+    match (ports, taps) {
+        (Ok(ports), Ok(taps)) => Ok(Outside {
             ports,
+            taps,
             files,
             sockets,
         }),
-        Err(_) => {
+        _ => {
             remove_sockets(rt, sockets.as_slice());
             Err(NetworkFault::Memory)
         }

@@ -1,15 +1,16 @@
 //! Texts about files and sockets that can't be used.
 
-ghost use Rattle.std.specs.Prelude.{◌≡◌, ◌++◌, List, ℕ, string_bytes, IfOk, OnOk};
+ghost use Rattle.std.specs.Prelude.{◌≡◌, ◌++◌, List, ℕ, map, string_bytes, OnOk};
 ghost use Rattle.std.specs.Io.KnownBytes.{Appends};
-ghost use Rattle.pb_cmd_run.specs.Telling.{name_at, word_of, path_line, sharing, TellsFault};
+ghost use Rattle.pb_cmd_run.specs.Telling.{name_at, user_at, word_of, path_line, sharing, TellsFault};
 
+use crate::users::{Users, put_user};
 use pb_frame::Memory;
 use pb_lan::CustomerPlan;
 use pb_messages::{CommandFault, write_whole};
 use pb_printable::put_printable;
 use pb_run_ports::{FileUser, OpenFault, Verb};
-use std::alloc::{AllocError, Global};
+use std::alloc::Global;
 use std::io::{Error, Write};
 
 /// The text before the line of a fault.
@@ -40,11 +41,20 @@ fn word_of(verb: Verb) -> &'static str
 }
 
 /// Appends a line about a path, with the control characters of the path escaped.
-fn put_line(out: &mut String, name: &str, word: &str, path: &str, why: &str) -> Result<(), Memory>
+fn put_line(
+    out: &mut String,
+    users: Users<'_>,
+    place: usize,
+    word: &str,
+    path: &str,
+    why: &str,
+) -> Result<(), Memory>
     ensures { OnOk result (string_bytes out.new ≡ string_bytes out.old
-        ++ path_line name.now word.now path.now why.now) }
+        ++ path_line (user_at users.entry.customers.now (map (λ n. n.now) users.entry.taps.now) place)
+        word.now path.now why.now) }
 {
-    write!(out, "port {name}: {word} ")?;
+    put_user(out, users, place)?;
+    write!(out, ": {word} ")?;
     put_printable(out, path)?;
     writeln!(out, ": {why}")?;
     Ok(())
@@ -57,82 +67,92 @@ fn put_line(out: &mut String, name: &str, word: &str, path: &str, why: &str) -> 
 /// `Write` if the write failed, `Memory` if an allocation failed.
 fn write_line<W: Write>(
     alloc: Global,
-    name: &str,
+    users: Users<'_>,
+    place: usize,
     word: &str,
     path: &str,
     why: &str,
     writer: &mut W,
 ) -> Result<(), CommandFault>
     ensures { OnOk result (Appends (W.contents writer.old) (W.contents writer.new)
-        (path_line name.now word.now path.now why.now)) }
+        (path_line (user_at users.entry.customers.now (map (λ n. n.now) users.entry.taps.now) place)
+        word.now path.now why.now)) }
 {
     let mut out = String::new(alloc);
-    put_line(&mut out, name, word, path, why)?;
+    put_line(&mut out, users, place, word, path, why)?;
     write_whole(writer, out.as_bytes())
 }
 
-/// Writes `port NAME: VERB PATH: WHY` for a path that a port could not use. WHY is the error of the
-/// system.
+/// Writes `USER: VERB PATH: WHY` for a path that a user could not use. WHY is the error of the system.
 ///
 /// # Errors
 ///
 /// `Write` if the write failed, `Memory` if an allocation failed.
 pub(crate) fn write_path_fault<W: Write>(
     alloc: Global,
-    name: &str,
+    users: Users<'_>,
+    place: usize,
     verb: Verb,
     path: &str,
     error: &Error,
     writer: &mut W,
 ) -> Result<(), CommandFault>
     ensures { OnOk result ((why : List ℕ) × Appends (W.contents writer.old) (W.contents writer.new)
-        (path_line name.now (word_of verb) path.now why)) }
+        (path_line (user_at users.entry.customers.now (map (λ n. n.now) users.entry.taps.now) place)
+        (word_of verb) path.now why)) }
 {
     let why = format!(in alloc; "{error}")?;
-    write_line(alloc, name, word_of(verb), path, why.as_str(), writer)
+    let word = word_of(verb);
+    write_line(alloc, users, place, word, path, why.as_str(), writer)
 }
 
-/// Returns the text about the other user of a file.
-fn sharing(alloc: Global, customers: &[CustomerPlan], other: FileUser) -> Result<String, AllocError>
-    ensures { IfOk result (λ text. string_bytes text ≡ sharing customers.now other) }
+/// Appends the text about the other user of a file.
+fn put_sharing(out: &mut String, users: Users<'_>, other: FileUser) -> Result<(), Memory>
+    ensures { OnOk result (string_bytes out.new ≡ string_bytes out.old
+        ++ sharing users.entry.customers.now (map (λ n. n.now) users.entry.taps.now) other) }
 {
     match other {
-        FileUser::Plan => String::from_str(alloc, "also the plan file"),
+        FileUser::Plan => {
+            out.push_str("also the plan file")?;
+            Ok(())
+        }
         FileUser::Reader(place) => {
-            let name = name_at(customers, place);
-            format!(in alloc; "also read by port {name}")
+            out.push_str("also read by ")?;
+            put_user(out, users, place)?;
+            Ok(())
         }
         FileUser::Writer(place) => {
-            let name = name_at(customers, place);
-            format!(in alloc; "also written by port {name}")
+            out.push_str("also written by ")?;
+            put_user(out, users, place)?;
+            Ok(())
         }
     }
 }
 
-/// Writes `port NAME: VERB PATH: WHY` for the fault in opening the ports of a plan. Writes nothing for
-/// `Memory`.
+/// Writes `USER: VERB PATH: WHY` for the fault in opening the ports and taps of a plan. Writes nothing for `Memory`.
 ///
 /// # Errors
 ///
 /// `Write` if the write failed, `Memory` if an allocation failed.
 pub(crate) fn write_open_fault<W: Write>(
     alloc: Global,
-    customers: &[CustomerPlan],
+    users: Users<'_>,
     fault: &OpenFault,
     writer: &mut W,
 ) -> Result<(), CommandFault>
-    ensures { OnOk result (TellsFault customers.now fault.now (W.contents writer.old) (W.contents writer.new)) }
+    ensures { OnOk result (TellsFault users.entry.customers.now (map (λ n. n.now) users.entry.taps.now) fault.now
+        (W.contents writer.old) (W.contents writer.new)) }
 {
     match fault {
         OpenFault::Unopened(f) | OpenFault::Unemptied(f) => {
-            let name = name_at(customers, f.place);
-            write_path_fault(alloc, name, f.verb, f.path.as_str(), &f.error, writer)
+            let path = f.path.as_str();
+            write_path_fault(alloc, users, f.place, f.verb, path, &f.error, writer)
         }
         OpenFault::Shared(f) => {
-            let name = name_at(customers, f.place);
-            let why = sharing(alloc, customers, f.other)?;
-            let word = word_of(Verb::Write);
-            write_line(alloc, name, word, f.path.as_str(), why.as_str(), writer)
+            let mut why = String::new(alloc);
+            put_sharing(&mut why, users, f.other)?;
+            let (word, path) = (word_of(Verb::Write), f.path.as_str());
+            write_line(alloc, users, f.place, word, path, why.as_str(), writer)
         }
         OpenFault::Memory => Ok(()),
     }
@@ -141,14 +161,15 @@ pub(crate) fn write_open_fault<W: Write>(
 /// Writes `error: ` and the line of [`write_path_fault`]. Nothing reports a failed write.
 pub(crate) fn show_path_fault<W: Write>(
     alloc: Global,
-    name: &str,
+    users: Users<'_>,
+    place: usize,
     verb: Verb,
     path: &str,
     error: &Error,
     writer: &mut W,
 ) {
     if write_whole(writer, PREFIX.as_bytes()).is_ok() {
-        let _ = write_path_fault(alloc, name, verb, path, error, writer);
+        let _ = write_path_fault(alloc, users, place, verb, path, error, writer);
     }
 }
 
@@ -156,7 +177,7 @@ pub(crate) fn show_path_fault<W: Write>(
 /// write.
 pub(crate) fn show_open_fault<W: Write>(
     alloc: Global,
-    customers: &[CustomerPlan],
+    users: Users<'_>,
     fault: &OpenFault,
     writer: &mut W,
 ) {
@@ -164,7 +185,7 @@ pub(crate) fn show_open_fault<W: Write>(
         OpenFault::Memory => {}
         _ => {
             if write_whole(writer, PREFIX.as_bytes()).is_ok() {
-                let _ = write_open_fault(alloc, customers, fault, writer);
+                let _ = write_open_fault(alloc, users, fault, writer);
             }
         }
     }

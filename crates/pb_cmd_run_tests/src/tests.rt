@@ -22,6 +22,7 @@ mod plans;
 mod reports;
 mod sheet;
 mod staying;
+mod taps;
 mod times;
 
 use self::sheet::Sheet;

@@ -101,6 +101,13 @@ const UNWRITTEN: &[Slot] = slots![
     ("what", Kind::OneOf(FRAMES), ""),
 ];
 
+/// The frames that a tap of a link did not write.
+const TAP_UNWRITTEN: &[Slot] = slots![
+    ("link", Kind::Text, ": "),
+    ("count", Kind::Number, " "),
+    ("what", Kind::OneOf(FRAMES), ""),
+];
+
 /// The copies or BPDUs that a bridge did not queue at a port.
 const UNQUEUED: &[Slot] = slots![
     ("bridge", Kind::Text, " port "),
@@ -140,6 +147,14 @@ const PORT_PATH: &[Slot] = slots![
     ("why", Kind::Text, ""),
 ];
 
+/// A path that a tap of a link could not use.
+const TAP_PATH: &[Slot] = slots![
+    ("link", Kind::Text, ": "),
+    ("use", Kind::OneOf(USES), " "),
+    ("path", Kind::Text, ": "),
+    ("why", Kind::Text, ""),
+];
+
 /// The path of a control socket that was not created.
 const CONTROL_PATH: &[Slot] = slots![
     ("use", Kind::OneOf(CONTROL), " "),
@@ -160,12 +175,14 @@ const RUN_LINES: &[Template] = &[
     SETTLED_LINE,
     template!("port_faults", "fault: port ", PORT_FAULT),
     template!("losses", "port ", UNWRITTEN),
+    template!("losses", "tap of link ", TAP_UNWRITTEN),
     template!("losses", "bridge ", UNQUEUED),
     template!("losses", "bridge ", UNLEARNT),
     template!("losses", "", UNSETTLED),
     template!("drops", "bridge ", DROPPED),
     template!("", "frames in transit: ", TRANSIT),
     template!("paths", "error: port ", PORT_PATH),
+    template!("paths", "error: tap of link ", TAP_PATH),
     template!("paths", "error: cannot ", CONTROL_PATH),
     template!("warnings", "warning: ", WARNING),
     FAULT,

@@ -31,11 +31,13 @@ const ACCEPTED: &str =
 
 /// A run with losses, and with paths that it could not use.
 const LOST: &str =
-    "ended drained\nport C1: 3 frames not written\nbridge B2 port 1: 2571 copies not queued: full\n\
+    "ended drained\nport C1: 3 frames not written\ntap of link L1: 5 frames not written\n\
+    bridge B2 port 1: 2571 copies not queued: full\n\
     bridge B2 port 1: 4 BPDUs not queued: memory\nbridge B2: 17 sources not learnt: full\n\
     bridge B2 port 3: 6 frames dropped: not-member\nbridge B2 port 3: 2 frames dropped: no-port\n\
     bridges not converged\n\
     error: port C1: write out/a.pcap: also the plan file\nerror: port C2: cannot read in.pcap: it is a pcapng file\n\
+    error: tap of link L1: write out/l1.pcap: No such file or directory (os error 2)\n\
     error: cannot create control socket out/net: File exists\nwarning: 1 event did not take place\nhint: convert it\n";
 
 /// Reports of `check`.
@@ -114,6 +116,7 @@ pub(super) const RUNS: &[Said] = &[
         text: LOST,
         json: r#"{"ended": "drained", "ports": [], "links": [], "loops": [], "port_faults": [], "losses": [
                 {"port": "C1", "count": 3, "what": "frames not written"},
+                {"link": "L1", "count": 5, "what": "frames not written"},
                 {"bridge": "B2", "bridge_port": 1, "count": 2571, "what": "copies not queued", "cause": "full"},
                 {"bridge": "B2", "bridge_port": 1, "count": 4, "what": "BPDUs not queued", "cause": "memory"},
                 {"bridge": "B2", "count": 17, "what": "sources not learnt", "cause": "full"},
@@ -122,6 +125,7 @@ pub(super) const RUNS: &[Said] = &[
                 {"bridge": "B2", "bridge_port": 3, "count": 2, "reason": "no-port"}],
             "paths": [{"port": "C1", "use": "write", "path": "out/a.pcap", "why": "also the plan file"},
                 {"port": "C2", "use": "read", "path": "in.pcap", "why": "it is a pcapng file"},
+                {"link": "L1", "use": "write", "path": "out/l1.pcap", "why": "No such file or directory (os error 2)"},
                 {"use": "control", "path": "out/net", "why": "File exists"}],
             "warnings": [{"message": "1 event did not take place"}], "other": ["hint: convert it"]}"#,
     },

@@ -22,25 +22,22 @@ loop-port-preserved g c = record {
 
 pub returns-in-Ok-clause-ok : goal.returns-in-Ok-clause-ok
 returns-in-Ok-clause-ok g c =
-    let ran = c.in-Ok.ran in
+    let ran = c.in-Ok.run'.ran in
     let run = c.in-Ok.ensures.run in
-    let after = c.lingered-ran.result in
-    let kept = c.lingered-ran.ensures in
     let given = all_moved (λ b. (own-1.entry b.vtable).1.script b.value) c.loop-port.held.items
     (λ w. script_at w.port) (into_iter_items c.loop-port.port-iterator)
     (into_iter_items c.into_iter-port-iterator.result) c.args.ports.items c.loop-port.invariant.scripts (search rules)
     (search rules) in
-    on_value c.tell.result (λ status told specs same. record {
-      rec = after.counts;
-      lawful = rw kept.counts run.steps.lawful;
-      headline = rw kept.counts run.steps.headline;
-      whole = λ lossless. rw kept.counts (c.in-Ok.ensures.lossless lossless);
-      lasts = after.last.items;
-      last_count = rw kept.last (grind (arith, common_steps));
-      scripted = rw (kept.counts, kept.last)
-          (are_scripted specs _ _ ran.counts.customers ran.last.items (given ∙ same) run.ports);
-      ended = after.ended;
-      tells_ended = rw (kept.counts, kept.last, kept.ended) run.ended;
-      settled = after.settled;
+    on_value c.tell_run.result (λ status told specs same. record {
+      rec = ran.counts;
+      lawful = run.steps.lawful;
+      headline = run.steps.headline;
+      whole = c.in-Ok.ensures.lossless;
+      lasts = ran.last.items;
+      last_count = grind (arith, common_steps);
+      scripted = are_scripted specs _ _ ran.counts.customers ran.last.items (given ∙ same) run.ports;
+      ended = ran.ended;
+      tells_ended = run.ended;
+      settled = ran.settled;
       report = told;
-    }) c.tell.ensures.ok
+    }) c.tell_run.ensures.ok

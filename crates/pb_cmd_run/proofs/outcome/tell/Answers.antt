@@ -1,0 +1,17 @@
+use Rattle.std.proofs.Common.{map, ◌∙◌, rules}
+use Rattle.std.proofs.lemmas.List.{length-map}
+use Rattle.pb_cmd_run.proofs.NetworkLemmas.{exits}
+use Rattle.pb_cmd_run.proofs.outcome.tell.Goals as goal
+
+pub returns-clause-ok : goal.returns-clause-ok
+returns-clause-ok g c = record {
+  told = c.in_ok-told.told;
+  text = c.in_ok-told.ensures.ok.0;
+  written = c.in_ok-told.ensures.ok.1;
+  is_report = c.in_ok-told.ensures.ok.2;
+  unsent = map (λ b. (goal.Port-dyn g (b.vtable, b.value)).waiting b.value) c.as_slice-ports.result.now;
+  unsent_count = length-map c.as_slice-ports.result.now (λ b. (goal.Port-dyn g (b.vtable, b.value)).waiting b.value)
+      ∙ search rules;
+  status_is = exits _ _ _ _ _ _ _ c.exit_status.ensures c.is_whole-is_whole.ensures
+      (λ e. c.as_str-2.ensures.value ∙ c.in_ok-lost.ensures.ok e);
+}
