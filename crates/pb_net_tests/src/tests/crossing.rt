@@ -1,7 +1,7 @@
 //! Frames that go from customer port 1 over the link to customer port 2.
 
 use super::draft::{Draft, Site};
-use super::networks::{BROADCAST, JOINED};
+use super::networks::{BROADCAST, JOINED, NOTICE};
 use super::rows::{Act, Fate, Row};
 use super::walk::walks;
 use pb_lan::Place;
@@ -9,7 +9,6 @@ use std::test::Fail;
 
 #[test]
 fn a_customers_notice_of_change_is_carried(rt: HostRuntime) -> Result<(), Fail> {
-    const NOTICE: &[u8] = b"\x01\x80\xc2\0\0\0\x02\0\0\0\x01\x01\0\x07BB\x03\0\0\0\x80";
     const ROWS: &[Row] = &[
         Row::Enters(1, NOTICE),
         Row::Crosses(1),

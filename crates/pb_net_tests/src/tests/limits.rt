@@ -3,7 +3,7 @@
 use super::draft::Draft;
 use super::networks::{SHORT, THREE_CUSTOMERS};
 use super::rows::{Act, Deed, Fate, Row, Sent};
-use super::walk::walks;
+use super::walk::{ends_drained, walks};
 use pb_lan::{Learnt, NoRoom, Place};
 use pb_net::NetFault;
 use std::test::Fail;
@@ -32,6 +32,21 @@ fn each_place_has_its_own_steps(rt: HostRuntime) -> Result<(), Fail> {
         },
     ];
     walks(&rt, rt.alloc(), &FEW_STEPS, ROWS)
+}
+
+/// Shows that a network whose lists of steps are full has not drained.
+#[test]
+fn a_frame_at_a_place_that_takes_no_more_steps_is_on_its_way(rt: HostRuntime) -> Result<(), Fail> {
+    // The bridge received the frame and sent one of its two copies.
+    const FULL: &[Row] = &[
+        Row::Enters(1, SHORT),
+        Row::Does(Act::Transmit(1, 2)),
+        Row::Does(Act::Deliver(2)),
+        Row::Refused(Act::Transmit(1, 3), NetFault::StepLimit),
+    ];
+    ends_drained(&rt, rt.alloc(), &FEW_STEPS, FULL, false)?;
+    const SENT: &[Row] = &[Row::Enters(1, SHORT), Row::Empties];
+    ends_drained(&rt, rt.alloc(), &THREE_CUSTOMERS, SENT, true)
 }
 
 /// The first broadcast, as the bridge receives it.
@@ -81,5 +96,7 @@ fn a_full_queue_gets_no_copy(rt: HostRuntime) -> Result<(), Fail> {
             },
         ),
     ];
-    walks(&rt, rt.alloc(), &SHORT_QUEUES, ROWS)
+    walks(&rt, rt.alloc(), &SHORT_QUEUES, ROWS)?;
+    // A copy of the first frame waits; the copy that was refused does not.
+    ends_drained(&rt, rt.alloc(), &SHORT_QUEUES, ROWS, false)
 }

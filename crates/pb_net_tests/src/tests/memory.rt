@@ -2,7 +2,7 @@
 //! next try.
 
 use super::expected::event_of;
-use super::networks::{BROADCAST, JOINED};
+use super::networks::{BROADCAST, JOINED, NOTICE};
 use super::plans::plan_of;
 use super::rows::Act;
 use super::seen::{has_moved, taken_at, tells_short};
@@ -12,9 +12,8 @@ use pb_net::{Did, Net, NetFault};
 use std::alloc::Global;
 use std::test::Fail;
 
-/// The events of a broadcast from customer port 1 over the link to customer port 2.
+/// The events of a frame after its poll at customer port 1, over the link to customer port 2.
 const EVENTS: &[Act] = &[
-    Act::Poll(1, BROADCAST),
     Act::Feed(1),
     Act::Receive(1, 2),
     Act::Transmit(1, 1),
@@ -77,8 +76,12 @@ fn gives(net: &mut Net, act: Act) -> Came {
     told_by(net.step(event_of(act)))
 }
 
-/// Returns the result of the events, up to the first that was not done.
-fn all_come(net: &mut Net) -> Came {
+/// Returns the result of the poll of a frame and of the events after it, up to the first that was not done.
+fn all_come(net: &mut Net, frame: &'static [u8]) -> Came {
+    let polled = gives(net, Act::Poll(1, frame));
+    if polled != Came::Done {
+        return polled;
+    }
     for act in EVENTS {
         let came = gives(net, *act);
         if came != Came::Done {
@@ -88,25 +91,29 @@ fn all_come(net: &mut Net) -> Came {
     Came::Done
 }
 
-/// Returns the result of the events in a network, whether the frame left as it came, and whether otherwise a bridge's
+/// Returns the result of a frame's events in a network, whether it left as it came, and whether otherwise a bridge's
 /// step reports a failed allocation.
-fn seen(alloc: Global) -> Result<(Came, bool, bool), Memory> {
+fn seen(alloc: Global, frame: &'static [u8]) -> Result<(Came, bool, bool), Memory> {
     let plan = plan_of(alloc, &JOINED)?;
     if !plan_is_sound(&plan) {
         return Ok((Came::Wrong, false, false));
     }
     let mut net = Net::new(alloc, plan)?;
-    let came = all_come(&mut net);
-    let has_left = has_moved(&net, Place::Customer(2), BROADCAST);
+    let came = all_come(&mut net, frame);
+    let has_left = has_moved(&net, Place::Customer(2), frame);
     Ok((came, has_left, tells_short(&net, 1) || tells_short(&net, 2)))
 }
 
+/// Shows, for each allocation that fails, that the event is done at the next try or that the bridge's step reports it:
+/// of a broadcast, and of a notice that is for no bridge.
 #[test]
 fn what_wants_memory_is_done_at_the_next_try(rt: HostRuntime) -> Result<(), Fail> {
-    let (came, has_left, is_short) = seen(rt.alloc())?;
-    if came == Came::Memory {
-        return Err(Fail::from(Memory));
+    for frame in [BROADCAST, NOTICE] {
+        let (came, has_left, is_short) = seen(rt.alloc(), frame)?;
+        if came == Came::Memory {
+            return Err(Fail::from(Memory));
+        }
+        assert!(rt; (came == Came::Done && has_left) || (came == Came::Idle && is_short));
     }
-    assert!(rt; (came == Came::Done && has_left) || (came == Came::Idle && is_short));
     Ok(())
 }

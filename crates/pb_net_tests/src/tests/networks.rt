@@ -9,6 +9,9 @@ pub(super) const SHORT: &[u8] = b"\xff\xff\xff\xff\xff\xff\x02\0\0\0\x01\x01\x08
 /// A broadcast from 02-00-00-00-01-01 with two octets after its type.
 pub(super) const BROADCAST: &[u8] = b"\xff\xff\xff\xff\xff\xff\x02\0\0\0\x01\x01\x08\0AB";
 
+/// A customer's notice of a topology change (IEEE 802.1D-2004 clause 9.3.2) from 02-00-00-00-01-01: 21 octets.
+pub(super) const NOTICE: &[u8] = b"\x01\x80\xc2\0\0\0\x02\0\0\0\x01\x01\0\x07BB\x03\0\0\0\x80";
+
 /// One bridge with the customer ports 1 and 2 of red, at its ports 1 and 2.
 pub(super) const TWO_CUSTOMERS: Draft = Draft {
     bridges: 1,

@@ -4,7 +4,7 @@ use super::draft::{Draft, Joint, Site};
 use super::networks::{BROADCAST, JOINED};
 use super::rows::{Act, Fate, Row};
 use super::walk::walks;
-use pb_lan::{Place, Reason};
+use pb_lan::{Learnt, Place, Reason};
 use std::test::Fail;
 
 /// A link from port 1 to port 1 for red, and one from port 3 to port 4 for blue.
@@ -79,6 +79,51 @@ fn a_port_takes_the_services_that_it_lists(rt: HostRuntime) -> Result<(), Fail> 
         },
     ];
     walks(&rt, rt.alloc(), &HALF_LISTED, ROWS)
+}
+
+/// The link with an end for all services and one, at B2, for red alone. Customer port 3 (B2 port 3, blue) is the only
+/// port of blue at B2.
+const RED_AT_B2: Draft = Draft {
+    links: &[Joint::Listed((1, 1), None, (2, 1), Some(&[1]))],
+    ..JOINED
+};
+
+/// Shows that a broadcast is relayed to no port if no other port of the bridge is of its service.
+#[test]
+fn a_frame_with_no_other_port_of_its_service_goes_to_none(rt: HostRuntime) -> Result<(), Fail> {
+    const ROWS: &[Row] = &[
+        Row::Enters(3, BROADCAST),
+        Row::Ruled {
+            bridge: 2,
+            fate: Fate::Relayed(&[]),
+        },
+        Row::Idle(Act::Transmit(2, 1)),
+        Row::Empties,
+        Row::Left(&[0, 0, 0]),
+    ];
+    walks(&rt, rt.alloc(), &RED_AT_B2, ROWS)
+}
+
+/// Shows that both bridges learn a station of blue, also the one without a customer of blue: by `learnt` of the step.
+#[test]
+fn both_bridges_learn_a_station_of_blue(rt: HostRuntime) -> Result<(), Fail> {
+    // A station of blue at customer port 3, and then the same frame again.
+    const FRAME: &[u8] = b"\xff\xff\xff\xff\xff\xff\x02\0\0\0\x03\x03\x08\0";
+    const ROWS: &[Row] = &[
+        Row::Enters(3, FRAME),
+        Row::Learnt(2, Some(Learnt::New)),
+        Row::Crosses(2),
+        Row::Learnt(1, Some(Learnt::New)),
+        Row::Ruled {
+            bridge: 1,
+            fate: Fate::Relayed(&[]),
+        },
+        Row::Enters(3, FRAME),
+        Row::Learnt(2, Some(Learnt::Kept)),
+        Row::Crosses(2),
+        Row::Learnt(1, Some(Learnt::Kept)),
+    ];
+    walks(&rt, rt.alloc(), &JOINED, ROWS)
 }
 
 /// One bridge with the customer ports 1 and 2 of red and 3 of blue, at its ports 1, 2 and 3.

@@ -14,7 +14,7 @@ use super::seen::{
     taken_at, took,
 };
 use bytes::Bytes;
-use pb_forest::forest;
+use pb_forest::{forest, is_drained};
 use pb_frame::Memory;
 use pb_history::{Tallies, last_shape};
 use pb_lan::{Plan, PortState, Record, Shape, plan_is_sound};
@@ -178,6 +178,20 @@ pub(super) fn records(
         has_steps(&record, wanted.customers),
         "the steps of customer ports"
     );
+    Ok(())
+}
+
+/// Walks a network of the draft through the rows. Checks whether no frame is on its way at the end, by its record.
+pub(super) fn ends_drained(
+    rt: &impl Abort,
+    alloc: Global,
+    draft: &Draft,
+    rows: &[Row],
+    wanted: bool,
+) -> Result<(), Fail> {
+    let record = record_of(rt, alloc, draft, rows)?;
+    let counts = Tallies::of(alloc, &record)?;
+    assert_eq!(rt; is_drained(&counts), wanted);
     Ok(())
 }
 
