@@ -14,7 +14,8 @@ const PATH: &str = "Path of the run's control socket, as in `run --control PATH`
 
 /// The help of COMMAND.
 const COMMAND: &str =
-    "stop, counts, tree, drops, stations BRIDGE, help, down NAME, up NAME; `--` between commands, `-` for standard input";
+    "stop, counts, tree, drops, stations BRIDGE, help, down NAME, up NAME; `--` between commands, \
+    `-` for standard input";
 
 /// The arguments of `control`.
 pub(crate) const ARGUMENTS: &[Argument] = &[

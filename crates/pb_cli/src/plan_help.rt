@@ -64,6 +64,12 @@ const PLAN_KEYS: &str =
   bridge, port            The bridge, by name, and its local port [range: 1-16]
   up                      true: enable the port; false: disable it
 
+[[tap]], at most 128: run captures the frames that cross a link
+  link                    The link, by name
+  write                   The path of the capture to write
+  direction               "ab", "ba" or "both" [default: "both"]
+  stamp                   Times of records, "ticks" or "time" [default: "ticks"]
+
 [[accept]]: survive accepts what a failure disconnects; exactly one of link, bridge and links
   link                    The failure of this link, by name [default: no]
   bridge                  The failure of this bridge, by name [default: no]

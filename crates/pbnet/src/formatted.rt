@@ -72,8 +72,8 @@ impl<'a, R: Print + AllocGlobal> Output<'a, R> {
         Ok(json.into_bytes())
     }
 
-    /// Returns the exit status of the command, or 3 after the line `fault: memory` if a plan file was refused because an
-    /// allocation failed.
+    /// Returns the exit status of the command, or 3 after the line `fault: memory` if a plan file was refused because
+    /// an allocation failed.
     pub(crate) fn ended(&mut self, status: ExitCode) -> ExitCode {
         if self.lacks_memory {
             return tell_on(self, CommandFault::Memory);
