@@ -242,10 +242,10 @@ fn each_suggestion_can_be_used(rt: HostRuntime) -> Result<(), Fail> {
     let alloc = rt.alloc();
     for (topology, services, blocks, limits) in [
         (Topology::Line(1), 1, 9, UNLIMITED),
-        (Topology::Line(2), 1, 14, UNLIMITED),
-        (Topology::Ring(3), 2, 12, CLOCK),
-        (Topology::Star(4), 3, 14, UNLIMITED),
-        (Topology::DualHomed(2), 4, 12, CLOCK),
+        (Topology::Line(2), 1, 15, UNLIMITED),
+        (Topology::Ring(3), 2, 13, CLOCK),
+        (Topology::Star(4), 3, 15, UNLIMITED),
+        (Topology::DualHomed(2), 4, 13, CLOCK),
     ] {
         let mut file = Vec::new(alloc);
         assert_eq!(rt; write_plan(alloc, topology, services, &mut file), Ok(()));

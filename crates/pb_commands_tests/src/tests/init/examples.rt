@@ -123,6 +123,13 @@ service = "red"
 #port = 1
 #up = false
 
+# A capture of the frames that cross a link, S-tags and BPDUs included: both, or "ab" or "ba" alone.
+#[[tap]]
+#link = "L1"
+#write = "link.pcap"
+#direction = "both"
+#stamp = "ticks"
+
 # A failure that survive accepts, for all services or for one. In place of link: bridge, or links
 # with two names.
 #[[accept]]

@@ -1,5 +1,0 @@
-use Rattle.std.proofs.Common.{refl}
-use Rattle.pb_run.proofs.running.run.Goals as goal
-
-pub returns-clause-planned : goal.returns-clause-planned
-returns-clause-planned g c fixed = c.in_ok-ran.ensures.run.steps.planned fixed (c.in_ok-ran.ensures.mode.unset refl)
