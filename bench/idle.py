@@ -1,9 +1,9 @@
 #!/usr/bin/env python3
 """Measures what a run costs while nothing happens, and how long a frame takes through a line of bridges when it meets sleeping
 workers: the share of one processor that 288 workers use with a tick of a second, and the median delay through lines of bridges
-with 5 milliseconds between two frames.
+with 5 milliseconds between two frames, beside that through a plain hub (interop/hub.c, if gcc is installed).
 
-    bench/idle.py [--seconds N] [--frames N]
+    bench/idle.py [--seconds N] [--frames N] [--rounds N]
 
 The program is ./pbnet, or that of the variable PBNET.
 """
@@ -11,7 +11,7 @@ The program is ./pbnet, or that of the variable PBNET.
 import argparse
 import os
 import pathlib
-import resource
+import shutil
 import socket
 import statistics
 import subprocess
@@ -63,18 +63,24 @@ def quiet_network():
     return "\n".join(parts)
 
 
-def processor_time():
-    used = resource.getrusage(resource.RUSAGE_CHILDREN)
-    return used.ru_utime + used.ru_stime
+def processor_time(process):
+    """Returns the seconds of processor time that a running process has used."""
+    fields = pathlib.Path(f"/proc/{process.pid}/stat").read_text(encoding="utf-8").rsplit(")", 1)[1].split()
+    return (int(fields[11]) + int(fields[12])) / os.sysconf("SC_CLK_TCK")
 
 
 def share_when_idle(folder, seconds):
-    """Returns the share of one processor that a quiet run uses."""
+    """Returns the share of one processor that a quiet run uses once all its workers are there."""
     (folder / "quiet.toml").write_text(quiet_network(), encoding="utf-8")
-    before = processor_time()
-    subprocess.run([PROGRAM, "run", "quiet.toml", "--seconds", str(seconds)], cwd=folder, env=PLAIN, check=False,
-                   stdout=subprocess.DEVNULL, stderr=subprocess.DEVNULL)
-    return (processor_time() - before) / seconds
+    run = subprocess.Popen([PROGRAM, "run", "quiet.toml", "--seconds", str(seconds + 4)], cwd=folder, env=PLAIN,
+                           stdout=subprocess.DEVNULL, stderr=subprocess.DEVNULL)
+    time.sleep(2)
+    before = processor_time(run)
+    time.sleep(seconds)
+    used = processor_time(run) - before
+    run.kill()
+    run.wait()
+    return used / seconds
 
 
 def connect(path):
@@ -102,12 +108,8 @@ def receive(stream, frames, arrived):
             kept = kept[62:]
 
 
-def delay_through(folder, bridges, frames):
-    """Returns the median delay through a line of bridges, in microseconds."""
-    (folder / "line.toml").write_text(line_of(bridges), encoding="utf-8")
-    run = subprocess.Popen([PROGRAM, "run", "line.toml", "--seconds", "60"], cwd=folder, env=PLAIN,
-                           stdout=subprocess.DEVNULL, stderr=subprocess.DEVNULL)
-    first, last = connect(folder / "first.sock"), connect(folder / "last.sock")
+def median_delay(first, last, frames):
+    """Returns the median delay of frames from one stream to another, in microseconds, with 5 milliseconds between two frames."""
     arrived, sent = [], []
     reader = threading.Thread(target=receive, args=(last, frames, arrived), daemon=True)
     reader.start()
@@ -118,23 +120,67 @@ def delay_through(folder, bridges, frames):
         first.sendall(frame)
         time.sleep(0.005)
     reader.join(5)
-    run.kill()
-    run.wait()
     if len(arrived) != frames:
-        raise SystemExit(f"error: {len(arrived)} of {frames} frames came through {bridges} bridges")
+        raise SystemExit(f"error: {len(arrived)} of {frames} frames arrived")
     return 1e6 * statistics.median(b - a for a, b in zip(sent, arrived))
+
+
+def delay_through(folder, bridges, frames):
+    """Returns the median delay through a line of bridges, in microseconds."""
+    (folder / "line.toml").write_text(line_of(bridges), encoding="utf-8")
+    run = subprocess.Popen([PROGRAM, "run", "line.toml", "--seconds", "60"], cwd=folder, env=PLAIN,
+                           stdout=subprocess.DEVNULL, stderr=subprocess.DEVNULL)
+    try:
+        return median_delay(connect(folder / "first.sock"), connect(folder / "last.sock"), frames)
+    finally:
+        run.kill()
+        run.wait()
+        for name in ("first.sock", "last.sock"):
+            (folder / name).unlink(missing_ok=True)
+
+
+def delay_through_hub(folder, frames):
+    """Returns the median delay through a plain hub, in microseconds."""
+    names = ["a.sock", "b.sock"]
+    doors = [socket.socket(socket.AF_UNIX, socket.SOCK_STREAM) for _ in names]
+    for door, name in zip(doors, names):
+        door.bind(str(folder / name))
+        door.listen(1)
+    hub = subprocess.Popen([folder / "hub", "each", *names], cwd=folder)
+    try:
+        first, last = (door.accept()[0] for door in doors)
+        return median_delay(first, last, frames)
+    finally:
+        hub.kill()
+        hub.wait()
+        for name in names:
+            (folder / name).unlink()
+
+
+def has_hub(folder):
+    """Builds the hub. Returns whether it could."""
+    if not shutil.which("gcc"):
+        return False
+    subprocess.run(["gcc", "-O2", "-o", folder / "hub", TOP / "interop" / "hub.c"], check=True)
+    return True
 
 
 def main():
     words = argparse.ArgumentParser(description=__doc__, formatter_class=argparse.RawDescriptionHelpFormatter)
     words.add_argument("--seconds", type=int, default=10, help="the length of the quiet run (default 10)")
     words.add_argument("--frames", type=int, default=400, help="the frames through each line (default 400)")
+    words.add_argument("--rounds", type=int, default=3, help="the rounds of all delays (default 3)")
     given = words.parse_args()
     with tempfile.TemporaryDirectory(prefix="bench-") as name:
         folder = pathlib.Path(name)
         print(f"288 workers with nothing to do: {100 * share_when_idle(folder, given.seconds):.1f} % of one processor", flush=True)
-        for bridges in (1, 4, 16, 32):
-            print(f"median delay through {bridges} bridges: {delay_through(folder, bridges, given.frames):.0f} microseconds", flush=True)
+        is_hub_there = has_hub(folder)
+        for _ in range(given.rounds):
+            if is_hub_there:
+                print(f"median delay through a plain hub: {delay_through_hub(folder, given.frames):.0f} microseconds", flush=True)
+            for bridges in (1, 4, 16, 32):
+                delay = delay_through(folder, bridges, given.frames)
+                print(f"median delay through {bridges} bridges: {delay:.0f} microseconds", flush=True)
 
 
 if __name__ == "__main__":

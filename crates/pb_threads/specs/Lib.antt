@@ -1,3 +1,4 @@
-pub mod Started
+pub mod Rooms
+pub mod Slots
 pub mod Together
 pub mod Clocks

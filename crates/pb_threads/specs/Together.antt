@@ -15,3 +15,8 @@ AreBack given fits was back = (map given back ≡ map given was) × All fits bac
 abbrev pub AreUntouched : {C L B : Type 0} → Places C L B → Places C L B → Type 0
 AreUntouched was back =
     (back.customers.items ≡ was.customers.items) × (back.lanes.items ≡ was.lanes.items) × (back.bridges.items ≡ was.bridges.items)
+
+-- the places are these, by kind
+abbrev pub ArePlacesOf : {C L B : Type 0} → List C → List L → List B → Places C L B → Type 0
+ArePlacesOf customers lanes bridges places =
+    (places.customers.items ≡ customers) × (places.lanes.items ≡ lanes) × (places.bridges.items ≡ bridges)

@@ -13,6 +13,9 @@ const AWAKE: u64 = 0;
 /// The state of a worker that found nothing to do. It sleeps if it then finds nothing again.
 const DROWSY: u64 = 1;
 
+/// The state of a drowsy worker whose place has an item for a ring that was full.
+const HELD_UP: u64 = 2;
+
 /// The number of local ports of a bridge.
 const PORTS: usize = 16;
 
@@ -26,24 +29,44 @@ struct Bell {
 }
 
 impl Bell {
-    /// Sleeps until the bell rings, at most this long, if the worker is drowsy. Makes it drowsy if it is awake. Returns
-    /// whether it slept and no bell rang. The worker of a place that the gate watches sleeps in the gate.
-    fn doze<R: Wait, G: Gate>(&self, rt: &R, gate: &G, place: Place, time: Duration) -> bool {
-        if self.state.load(Ordering::SeqCst) != DROWSY {
-            self.state.store(DROWSY, Ordering::SeqCst);
-            return false;
+    /// Makes the worker drowsy, or held up. Returns whether it already was: no bell has rung since.
+    fn nods(&self, is_held_up: bool) -> bool {
+        let state = if is_held_up { HELD_UP } else { DROWSY };
+        let was = self.state.load(Ordering::SeqCst) == state;
+        if !was {
+            self.state.store(state, Ordering::SeqCst);
         }
+        was
+    }
+
+    /// Checks whether the worker is drowsy or sleeps.
+    fn is_drowsy(&self) -> bool {
+        self.state.load(Ordering::SeqCst) != AWAKE
+    }
+
+    /// Checks whether the worker is drowsy or sleeps, and its place has an item for a ring that was full.
+    fn is_held_up(&self) -> bool {
+        self.state.load(Ordering::SeqCst) == HELD_UP
+    }
+
+    /// Sleeps until the bell rings, at most this long, if the worker is drowsy. Returns whether no bell rang. The worker
+    /// of a place that the gate watches sleeps in the gate.
+    fn sleep<R: Wait, G: Gate>(&self, rt: &R, gate: &G, place: Place, time: Duration) -> bool {
+        let state = match self.state.load(Ordering::SeqCst) {
+            AWAKE => return false,
+            HELD_UP => HELD_UP as u32,
+            _ => DROWSY as u32,
+        };
         let is_woken = gate.sleep(place, time);
         if is_woken.is_none() {
-            self.state.park_timeout(rt, DROWSY as u32, time);
+            self.state.park_timeout(rt, state, time);
         }
-        is_woken != Some(true) && self.state.load(Ordering::SeqCst) == DROWSY
+        is_woken != Some(true) && self.is_drowsy()
     }
 
     /// Wakes the worker, if it sleeps or is drowsy. Returns whether it was.
     fn ring(&self) -> bool {
-        let is_drowsy = self.state.load(Ordering::SeqCst) == DROWSY
-            && self.state.swap(AWAKE, Ordering::SeqCst) == DROWSY;
+        let is_drowsy = self.is_drowsy() && self.state.swap(AWAKE, Ordering::SeqCst) != AWAKE;
         if is_drowsy {
             self.state.wake_one();
         }
@@ -59,8 +82,8 @@ pub struct Bells {
     customers: usize,
     /// The number of lanes.
     lanes: usize,
-    /// The indices of the workers beside each customer port, each lane, and each local port of each bridge. Beside a
-    /// local port the first is the one to which the bridge sends there.
+    /// The indices of the workers beside each customer port, each lane, and each local port of each bridge: first that of
+    /// the place to which items go from there, then that of the place from which they come, if it is another one.
     beside: Vec<[usize; 2]>,
 }
 
@@ -111,7 +134,7 @@ impl Bells {
             let back = away.wrapping_add(1);
             let a = self.worker(Place::Bridge(link.a.bridge));
             let b = self.worker(Place::Bridge(link.b.bridge));
-            self.set_beside(away, a, b);
+            self.set_beside(away, b, a);
             self.set_beside(back, a, b);
             let at = self.row(Place::Bridge(link.a.bridge), link.a.port);
             self.set_beside(at, away, back);
@@ -153,9 +176,24 @@ impl Bells {
         }
     }
 
-    /// Sleeps until a place's bell rings, at most this long, if its worker is drowsy. Makes it drowsy if it is awake.
-    /// Returns whether it slept and no bell rang.
-    pub(crate) fn doze<R: Wait, G: Gate>(
+    /// Makes the worker of a place drowsy, or held up if its place has an item for a ring that was full. Returns whether
+    /// it already was: no bell of it has rung since.
+    pub(crate) fn nods(&self, place: Place, is_held_up: bool) -> bool {
+        match self.bells.get(self.worker(place)) {
+            Some(bell) => bell.nods(is_held_up),
+            None => false,
+        }
+    }
+
+    /// Notes that the worker of a place is not drowsy.
+    pub(crate) fn stay_awake(&self, place: Place) {
+        if let Some(bell) = self.bells.get(self.worker(place)) {
+            bell.state.store(AWAKE, Ordering::SeqCst);
+        }
+    }
+
+    /// Sleeps until the bell of a place rings, at most this long, if its worker is drowsy. Returns whether no bell rang.
+    pub(crate) fn sleep<R: Wait, G: Gate>(
         &self,
         rt: &R,
         gate: &G,
@@ -163,48 +201,48 @@ impl Bells {
         time: Duration,
     ) -> bool {
         match self.bells.get(self.worker(place)) {
-            Some(bell) => bell.doze(rt, gate, place, time),
+            Some(bell) => bell.sleep(rt, gate, place, time),
             None => false,
         }
     }
 
-    /// Wakes the worker of this index, also if it sleeps in the gate. Only those of customer ports do. Returns whether
-    /// it slept or was drowsy.
-    fn wake<G: Gate>(&self, gate: &G, worker: usize) -> bool {
-        let Some(bell) = self.bells.get(worker) else {
-            return false;
-        };
-        let has_slept = bell.ring();
-        if has_slept && worker < self.customers {
-            if let Ok(number) = u8::try_from(worker.wrapping_add(1)) {
-                gate.rouse(Place::Customer(number));
-            }
+    /// Checks whether the worker of this index sleeps or is drowsy. There may be no such worker.
+    fn is_drowsy(&self, worker: usize) -> bool {
+        match self.bells.get(worker) {
+            Some(bell) => bell.is_drowsy(),
+            None => false,
         }
-        has_slept
     }
 
-    /// Wakes the workers of the customer ports and lanes to which the bridge with the worker of this index sends.
-    fn wake_behind<G: Gate>(&self, gate: &G, bridge: usize) {
-        let places = self.customers.wrapping_add(self.lanes);
-        let Some(index) = bridge.checked_sub(places) else {
+    /// Checks whether the worker of this index sleeps or is drowsy, and its place has an item for a ring that was full.
+    fn is_held_up(&self, worker: usize) -> bool {
+        match self.bells.get(worker) {
+            Some(bell) => bell.is_held_up(),
+            None => false,
+        }
+    }
+
+    /// Returns the indices of the sleeping workers that may have something to do after a step of a customer port, a lane,
+    /// or a bridge at a local port: the one to which items go, and the one from which they come if it is held up.
+    pub(crate) fn called(&self, place: Place, port: u8) -> [Option<usize>; 2] {
+        let Some([to, from]) = self.beside.get(self.row(place, port)) else {
+            return [None, None];
+        };
+        let (to, from) = (*to, *from);
+        [
+            self.is_drowsy(to).then_some(to),
+            self.is_held_up(from).then_some(from),
+        ]
+    }
+
+    /// Wakes the worker of this index, also if it sleeps in the gate. Only those of customer ports do.
+    pub(crate) fn wake<G: Gate>(&self, gate: &G, worker: usize) {
+        let Some(bell) = self.bells.get(worker) else {
             return;
         };
-        let first = places.wrapping_add(index.wrapping_mul(PORTS));
-        for row in first..first.wrapping_add(PORTS) {
-            if let Some([worker, _]) = self.beside.get(row) {
-                self.wake(gate, *worker);
-            }
-        }
-    }
-
-    /// Wakes the workers beside a customer port, a lane, or a local port of a bridge. With a bridge that slept it wakes
-    /// the places behind it, so that they are awake when the bridge has a frame for them.
-    pub(crate) fn ring_beside<G: Gate>(&self, gate: &G, place: Place, port: u8) {
-        if let Some(workers) = self.beside.get(self.row(place, port)) {
-            for worker in workers {
-                if self.wake(gate, *worker) {
-                    self.wake_behind(gate, *worker);
-                }
+        if bell.ring() && worker < self.customers {
+            if let Ok(number) = u8::try_from(worker.wrapping_add(1)) {
+                gate.rouse(Place::Customer(number));
             }
         }
     }

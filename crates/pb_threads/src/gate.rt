@@ -32,10 +32,11 @@ pub enum Dropped {
     Nowhere,
 }
 
-/// A gate that each worker passes before each of its turns.
+/// A gate that is passed before each turn of a place. Mostly the place's own worker takes the turn; while it sleeps, the
+/// worker of another place may.
 pub trait Gate: Sync {
-    /// Returns whether the worker of a place takes the turn of this number. Its first turn has number 0. A worker that
-    /// slept leaves out the numbers of the turns that it would have taken meanwhile.
+    /// Returns whether a place takes the turn of this number. Its first turn has number 0. A worker that slept leaves out
+    /// the numbers of the turns that it would have taken meanwhile.
     fn pass(&self, place: Place, turn: u64) -> Go;
 
     /// Decides as [`Gate::pass`] does, before a turn of a worker that finds nothing to do: it has slept, or it sleeps
@@ -50,9 +51,9 @@ pub trait Gate: Sync {
         None
     }
 
-    /// Checks whether the worker of a place may sleep until its bell rings, while nothing is to do. It wakes when a
-    /// place beside it takes a step, when its clock ticks, and after a second. Otherwise it passes the gate at least
-    /// twice a millisecond.
+    /// Checks whether the worker of a place may sleep until its bell rings, while nothing is to do. It wakes when its
+    /// clock ticks, after a second, and when a place beside it takes a step, unless the worker of that place takes the
+    /// next turns of this one too. Otherwise it passes the gate at least twice a millisecond.
     fn lets_sleep(&self, _place: Place) -> bool {
         false
     }
@@ -108,12 +109,5 @@ pub trait Gate: Sync {
 pub(crate) fn ring_all<G: Gate>(gate: &G) {
     if let Some(bells) = gate.bells() {
         bells.wake_all(gate);
-    }
-}
-
-/// Wakes the workers beside a customer port, a lane, or a local port of a bridge.
-pub(crate) fn ring_beside<G: Gate>(gate: &G, place: Place, port: u8) {
-    if let Some(bells) = gate.bells() {
-        bells.ring_beside(gate, place, port);
     }
 }

@@ -1,19 +1,25 @@
-//! Workers: each owns one place and takes turns in a thread of its own, over pb_lan and pb_rstp.
+//! Workers: each takes the turns of one place in a thread of its own, over pb_lan and pb_rstp. While it sleeps, the worker
+//! of a place beside it may take them.
 //!
 //! `run_all` starts them, joins them and returns the places. What holds of a place at the start and between turns holds
-//! of the place that comes back. Workers share counters, and the bells of the gate, which wake those that sleep: the
-//! rings between places belong to the places. Begin reading at `run_all` and `take_turns`.
+//! of the place that comes back. Workers share the slots of the places, counters, and the bells of the gate, which wake
+//! those that sleep: the rings between places belong to the places. Begin reading at `run_all`, `Worker::take_turns` and
+//! `Helper::run`.
 #![tactic(auto)]
 
 mod bells;
 mod gate;
+mod helping;
+mod pace;
 mod share;
 mod showing;
+mod slot;
 mod threads;
 mod ticks;
 mod turns;
 mod view;
 mod words;
+mod worker;
 
 pub use bells::Bells;
 pub use gate::{Dropped, Gate, Go, Wish};

@@ -1,21 +1,22 @@
 //! Starts and joins the workers.
 
-ghost use Rattle.std.specs.Prelude.{◌≡◌, ◌≤◌, [], false, map, vec_len, All, IfErr};
+ghost use Rattle.std.specs.Prelude.{◌≡◌, ◌≤◌, [], length, vec_len, All, IfOk, IfErr};
 ghost use Rattle.std.specs.Vec.{vec_capacity};
-ghost use Rattle.std.specs.VecDeque.{deque_len, deque_capacity};
-ghost use Rattle.pb_threads.specs.Started.{IsBack, IsHeld};
-ghost use Rattle.pb_threads.specs.Together.{AllFit, AreBack, AreUntouched};
+ghost use Rattle.pb_threads.specs.Rooms.{HasRooms, HasSlots};
+ghost use Rattle.pb_threads.specs.Together.{AllFit, AreBack, AreUntouched, ArePlacesOf};
 
 use crate::gate::Gate;
-use crate::turns::{Back, Work, run_place};
+use crate::helping::{Helper, help_at};
+use crate::slot::{Roster, Slot};
+use crate::turns::Work;
 use crate::words::Words;
+use crate::worker::{Next, Worker};
 use pb_lan::Limits;
-use std::alloc::Global;
-use std::collections::VecDeque;
-use std::snapshot::Snapshot;
+use std::alloc::{AllocError, Global};
+use std::marker::Brand;
 use std::sync::Wait;
 use std::thread;
-use std::thread::{Promise, PromisedHandle, Scope, Threads};
+use std::thread::{Scope, Threads};
 use std::time::Clock;
 use thiserror::Error;
 
@@ -50,197 +51,358 @@ pub struct Worked<C, L, B> {
     pub verdict: Result<(), WorkFault>,
 }
 
-/// The guarantee of a worker's thread: its place comes back as the worker was given it, as far as `given` and `fits`
-/// say.
-#[derive(Drop)]
-struct KeepsGiven<T>(Snapshot<T>);
+/// The most places that a worker helps before it returns to its own.
+const MOST_PLACES: u32 = 256;
 
-impl<T: Work> Promise<Back<T>> for KeepsGiven<T> {
-    ghost kept_by = { λ p r. IsBack T.given T.fits p.0.value r };
+/// What workers share: the slots of all places, and their counters.
+#[derive(Drop)]
+struct Floor<KC: Roster<C>, KL: Roster<L>, KB: Roster<B>, C: Work, L: Work, B: Work> {
+    customers: Vec<Slot<KC, C>>,
+    lanes: Vec<Slot<KL, L>>,
+    bridges: Vec<Slot<KB, B>>,
+    words: Words,
 }
 
-/// A worker in a thread, or its place, if the thread could not be started.
-type Child<T> = Result<PromisedHandle<Back<T>, KeepsGiven<T>>, Back<T>>;
-
-/// A worker that was started, and its place as it was given.
-#[derive(Drop)]
-struct Started<T: Work> {
-    child: Child<T>,
-    was: Snapshot<T>,
-}
-
-/// Starts one worker. If its thread could not be started, no worker begins, and the place is kept.
-fn start<'s, E, T: Work + Send + 's, G: Gate, R: Threads + Wait + Clock + Sync>(
-    scope: &'s Scope<'s, E>,
-    rt: &'s R,
-    place: T,
-    gate: &'s G,
-    words: &'s Words,
-    limits: Limits,
-) -> Started<T>
-    requires { T.fits place }
-    ensures was { result.was.value ≡ place }
-    ensures held { IsHeld (λ h. h.promise.0.value) (IsBack T.given T.fits) result.was.value result.child }
+impl<KC, KL, KB, C, L, B> Floor<KC, KL, KB, C, L, B>
+where
+    KC: Roster<C>,
+    KL: Roster<L>,
+    KB: Roster<B>,
+    C: Work,
+    L: Work,
+    B: Work,
 {
-    let was = Snapshot::of(&place);
-    let promise = KeepsGiven(Snapshot::of(&place));
-    let started = scope.spawn_with(
-        promise,
-        move || -> Back<T>
-            requires { T.fits place }
-            ensures { IsBack T.given T.fits place result }
-        { run_place(rt, place, gate, words, limits) },
-    );
-    let child = match started {
-        Ok(child) => Ok(child),
-        Err(refused) => {
-            words.leave();
-            Err((refused.value)())
+    /// Takes turns of the place of the worker of this index until there is nothing to do. Returns whether its worker may
+    /// sleep on. If not, it has to be woken.
+    fn help<G: Gate, R: Clock>(
+        &self,
+        rt: &R,
+        worker: usize,
+        gate: &G,
+        limits: Limits,
+        helper: &mut Helper,
+    ) -> bool {
+        if let Some(slot) = self.customers.get(worker) {
+            return help_at(rt, slot, gate, &self.words, limits, helper);
         }
-    };
-    Started { child, was }
+        let lane = worker.wrapping_sub(self.customers.len());
+        if let Some(slot) = self.lanes.get(lane) {
+            return help_at(rt, slot, gate, &self.words, limits, helper);
+        }
+        let bridge = lane.wrapping_sub(self.lanes.len());
+        match self.bridges.get(bridge) {
+            Some(slot) => help_at(rt, slot, gate, &self.words, limits, helper),
+            None => false,
+        }
+    }
+
+    /// Helps the places that a worker has noted, and those beside them in turn.
+    fn help_all<G: Gate, R: Clock>(&self, rt: &R, gate: &G, limits: Limits, helper: &mut Helper) {
+        for _ in 0..MOST_PLACES {
+            let Some(worker) = helper.next_errand() else {
+                break;
+            };
+            if !self.help(rt, worker, gate, limits, helper) {
+                if let Some(bells) = gate.bells() {
+                    bells.wake(gate, worker);
+                }
+            }
+        }
+        helper.hand_over(gate);
+    }
 }
 
-/// Starts a worker for each place, in order.
-fn start_all<'s, E, T: Work + Send + 's, G: Gate, R: Threads + Wait + Clock + Sync>(
-    scope: &'s Scope<'s, E>,
-    rt: &'s R,
-    places: Vec<T>,
-    children: &mut VecDeque<Started<T>>,
-    gate: &'s G,
-    words: &'s Words,
+/// Waits for the start, takes turn after turn of the place in a slot, and closes the place. Helps the places beside it,
+/// and sleeps on the bell of the place while there is nothing to do.
+fn run_place<K, T, KC, KL, KB, C, L, B, G, R>(
+    rt: &R,
+    slot: &Slot<K, T>,
+    floor: &Floor<KC, KL, KB, C, L, B>,
+    gate: &G,
     limits: Limits,
 )
-    requires room { (children.old.items ≡ []) × (vec_len places ≤ deque_capacity children.old) }
-    requires fits { All T.fits places.items }
-    ensures held { All (λ x. IsHeld (λ h. h.promise.0.value) (IsBack T.given T.fits) x.was.value x.child)
-        children.new.items }
-    ensures was { map (λ x. x.was.value) children.new.items ≡ places.items }
-    ensures len { deque_len children.new ≡ vec_len places }
+where
+    K: Roster<T>,
+    T: Work,
+    KC: Roster<C>,
+    KL: Roster<L>,
+    KB: Roster<B>,
+    C: Work,
+    L: Work,
+    B: Work,
+    G: Gate,
+    R: Wait + Clock,
 {
-    for place in places {
-        let Ok(()) = children.push_back(start(scope, rt, place, gate, words, limits)) else {
-            unreachable!()
-        };
+    if !floor.words.wait(rt) {
+        return;
+    }
+    let mut worker = Worker::new();
+    for _ in rt.forever() {
+        match worker.work(rt, slot, gate, &floor.words, limits) {
+            Next::End => return,
+            Next::Help => floor.help_all(rt, gate, limits, &mut worker.helper),
+            Next::Sleep(sleep) => worker.sleep(rt, gate, sleep),
+        }
     }
 }
 
-/// Returns what a worker gives back. Waits for its thread.
-fn join_one<T: Work, R: Threads>(rt: &R, started: Started<T>) -> Back<T>
-    requires { IsHeld (λ h. h.promise.0.value) (IsBack T.given T.fits) started.was.value started.child }
-    ensures { IsBack T.given T.fits started.was.value result }
+/// Returns empty slots for as many places.
+///
+/// # Errors
+///
+/// `AllocError` if an allocation failed.
+fn new_slots<K: Roster<T>, T: Work>(
+    alloc: Global,
+    count: usize,
+) -> Result<Vec<Slot<K, T>>, AllocError>
+    ensures { IfOk result (λ slots. vec_len slots ≡ count) }
 {
-    let Started { child, was: _ } = started;
-    match child {
-        Ok(handle) => handle.join(rt),
-        Err(back) => back,
+    let mut slots = Vec::with_capacity(alloc, count)?;
+    for _index in 0..count {
+        slots.push(Slot::new())?;
     }
+    Ok(slots)
 }
 
-/// Joins the workers in order, and appends their places. Returns whether one of them began.
-fn join_all<T: Work, R: Threads>(
-    rt: &R,
-    children: &mut VecDeque<Started<T>>,
-    places: &mut Vec<T>,
+/// Returns an empty slot for each place, and the counters of a run with this much left to do.
+///
+/// # Errors
+///
+/// `AllocError` if an allocation failed.
+fn floor_for<KC, KL, KB, C, L, B>(
+    alloc: Global,
+    places: &Places<C, L, B>,
+    left: u64,
+) -> Result<Floor<KC, KL, KB, C, L, B>, AllocError>
+where
+    KC: Roster<C>,
+    KL: Roster<L>,
+    KB: Roster<B>,
+    C: Work,
+    L: Work,
+    B: Work,
+    ensures { IfOk result (λ floor. HasSlots places.now floor.customers floor.lanes floor.bridges) }
+{
+    Ok(Floor {
+        customers: new_slots(alloc, places.customers.len())?,
+        lanes: new_slots(alloc, places.lanes.len())?,
+        bridges: new_slots(alloc, places.bridges.len())?,
+        words: Words::new(left),
+    })
+}
+
+/// Returns empty lists with room for the places that come back.
+///
+/// # Errors
+///
+/// `AllocError` if an allocation failed.
+fn rooms_for<C: Drop, L: Drop, B: Drop>(
+    alloc: Global,
+    places: &Places<C, L, B>,
+) -> Result<Places<C, L, B>, AllocError>
+    ensures { IfOk result (HasRooms places.now) }
+{
+    Ok(Places {
+        customers: Vec::with_capacity(alloc, places.customers.len())?,
+        lanes: Vec::with_capacity(alloc, places.lanes.len())?,
+        bridges: Vec::with_capacity(alloc, places.bridges.len())?,
+    })
+}
+
+/// Starts a worker for each slot, in order, until a thread can't be started. Returns whether all were started.
+fn start_row<'s, E, K, T, KC, KL, KB, C, L, B, G, R>(
+    scope: &'s Scope<'s, E>,
+    rt: &'s R,
+    slots: &'s [Slot<K, T>],
+    floor: &'s Floor<KC, KL, KB, C, L, B>,
+    gate: &'s G,
+    limits: Limits,
 ) -> bool
-    requires room { (places.old.items ≡ []) × (deque_len children.old ≤ vec_capacity places.old) }
-    requires held { All (λ x. IsHeld (λ h. h.promise.0.value) (IsBack T.given T.fits) x.was.value x.child)
-        children.old.items }
-    ensures fits { All T.fits places.new.items }
-    ensures given { map T.given places.new.items ≡ map T.given (map (λ x. x.was.value) children.old.items) }
-    ensures untouched { result ≡ false → places.new.items ≡ map (λ x. x.was.value) children.old.items }
-{
-    let mut has_begun = false;
-    while let Some(child) = children.pop_front() {
-        let back = join_one(rt, child);
-        has_begun |= back.has_begun;
-        places.push_reserved(back.place);
-    }
-    has_begun
-}
-
-/// Starts a worker for each place, lets them begin once all are started, and joins them.
-fn in_scope<
-    's,
-    E,
+where
+    K: Roster<T> + Send + 's,
+    T: Work + Send + 's,
+    KC: Roster<C> + Send + 's,
+    KL: Roster<L> + Send + 's,
+    KB: Roster<B> + Send + 's,
     C: Work + Send + 's,
     L: Work + Send + 's,
     B: Work + Send + 's,
     G: Gate,
     R: Threads + Wait + Clock + Sync,
->(
+{
+    for slot in slots {
+        let started = scope.spawn(move || run_place(rt, slot, floor, gate, limits));
+        if started.is_err() {
+            return false;
+        }
+    }
+    true
+}
+
+/// Puts each place into its slot.
+fn fill_row<K: Roster<T>, T: Work, R: Wait + Clock>(
+    rt: &R,
+    slots: &[Slot<K, T>],
+    places: Vec<T>,
+    limits: Limits,
+)
+    requires count { length slots.now ≡ vec_len places }
+    requires places { places.items ≡ K.places }
+    requires fits { All T.fits places.items }
+{
+    let mut index = 0;
+    for place in places {
+        slots[index].put(rt, index, place, limits);
+        index += 1;
+    }
+}
+
+/// Takes each place out of its slot. Allocates nothing.
+fn collect_row<K: Roster<T>, T: Work, R: Wait>(
+    rt: &R,
+    slots: Vec<Slot<K, T>>,
+    room: Vec<T>,
+) -> Vec<T>
+    requires room { (room.items ≡ []) × (vec_len slots ≤ vec_capacity room) }
+    requires count { vec_len slots ≡ length K.places }
+    ensures { AreBack T.given T.fits K.places result.items }
+{
+    let mut places = room;
+    for slot in slots {
+        let place = slot.take(rt, places.len());
+        places.push_reserved(place);
+    }
+    places
+}
+
+/// Starts a worker for each place, puts the places into their slots and lets the workers begin.
+///
+/// # Errors
+///
+/// The places, unchanged, if a thread could not be started. No worker begins then.
+fn start_all<'s, E, KC, KL, KB, C, L, B, G, R>(
     scope: &'s Scope<'s, E>,
     rt: &'s R,
-    alloc: Global,
+    floor: &'s Floor<KC, KL, KB, C, L, B>,
     places: Places<C, L, B>,
     gate: &'s G,
-    words: &'s Words,
     limits: Limits,
+) -> Result<(), Places<C, L, B>>
+where
+    KC: Roster<C> + Send + 's,
+    KL: Roster<L> + Send + 's,
+    KB: Roster<B> + Send + 's,
+    C: Work + Send + 's,
+    L: Work + Send + 's,
+    B: Work + Send + 's,
+    G: Gate,
+    R: Threads + Wait + Clock + Sync,
+    requires fits { AllFit C.fits L.fits B.fits places }
+    requires known { ArePlacesOf KC.places KL.places KB.places places }
+    requires slots { HasSlots places floor.now.customers floor.now.lanes floor.now.bridges }
+    ensures { IfErr result (λ back. back ≡ places) }
+{
+    let are_started = start_row(scope, rt, &floor.customers, floor, gate, limits)
+        && start_row(scope, rt, &floor.lanes, floor, gate, limits)
+        && start_row(scope, rt, &floor.bridges, floor, gate, limits);
+    if !are_started {
+        floor.words.leave();
+        return Err(places);
+    }
+    fill_row(rt, &floor.customers, places.customers, limits);
+    fill_row(rt, &floor.lanes, places.lanes, limits);
+    fill_row(rt, &floor.bridges, places.bridges, limits);
+    floor.words.begin();
+    Ok(())
+}
+
+/// Runs a worker for each place in a scope of threads, and waits for all of them.
+///
+/// # Errors
+///
+/// The places, unchanged, if a thread could not be started. No worker begins then.
+fn run_on<KC, KL, KB, C, L, B, G, R>(
+    rt: &R,
+    floor: &Floor<KC, KL, KB, C, L, B>,
+    places: Places<C, L, B>,
+    gate: &G,
+    limits: Limits,
+) -> Result<(), Places<C, L, B>>
+where
+    KC: Roster<C> + Send,
+    KL: Roster<L> + Send,
+    KB: Roster<B> + Send,
+    C: Work + Send,
+    L: Work + Send,
+    B: Work + Send,
+    G: Gate,
+    R: Threads + Wait + Clock + Sync,
+    requires fits { AllFit C.fits L.fits B.fits places }
+    requires known { ArePlacesOf KC.places KL.places KB.places places }
+    requires slots { HasSlots places floor.now.customers floor.now.lanes floor.now.bridges }
+    ensures { IfErr result (λ back. back ≡ places) }
+{
+    thread::scope(
+        thread::scope_env(),
+        rt,
+        move |scope| -> Result<(), Places<C, L, B>>
+            requires fits { AllFit C.fits L.fits B.fits places }
+            requires known { ArePlacesOf KC.places KL.places KB.places places }
+            requires slots { HasSlots places floor.now.customers floor.now.lanes floor.now.bridges }
+            ensures { IfErr result (λ back. back ≡ places) }
+        { start_all(scope, rt, floor, places, gate, limits) },
+    )
+}
+
+/// Runs a worker for each place, as [`run_all`] does. The rosters have the places.
+fn run_known<KC, KL, KB, C, L, B, G, R>(
+    rt: &R,
+    alloc: Global,
+    places: Places<C, L, B>,
+    gate: &G,
+    limits: Limits,
+    left: u64,
 ) -> Worked<C, L, B>
-    requires { AllFit C.fits L.fits B.fits places }
+where
+    KC: Roster<C> + Send,
+    KL: Roster<L> + Send,
+    KB: Roster<B> + Send,
+    C: Work + Send,
+    L: Work + Send,
+    B: Work + Send,
+    G: Gate,
+    R: Threads + Wait + Clock + Sync,
+    requires fits { AllFit C.fits L.fits B.fits places }
+    requires known { ArePlacesOf KC.places KL.places KB.places places }
     ensures customers { AreBack C.given C.fits places.customers.items result.places.customers.items }
     ensures lanes { AreBack L.given L.fits places.lanes.items result.places.lanes.items }
     ensures bridges { AreBack B.given B.fits places.bridges.items result.places.bridges.items }
     ensures untouched { IfErr result.verdict (λ fault. AreUntouched places result.places) }
 {
-    let verdict = Err(WorkFault::Memory);
-    let customers = VecDeque::<Started<C>>::with_capacity(alloc, places.customers.len());
-    let lanes = VecDeque::<Started<L>>::with_capacity(alloc, places.lanes.len());
-    let bridges = VecDeque::<Started<B>>::with_capacity(alloc, places.bridges.len());
-    let (Ok(customers), Ok(lanes), Ok(bridges)) = (customers, lanes, bridges) else {
+    let floor = floor_for::<KC, KL, KB, C, L, B>(alloc, &places, left);
+    let (Ok(floor), Ok(rooms)) = (floor, rooms_for(alloc, &places)) else {
+        let verdict = Err(WorkFault::Memory);
         return Worked { places, verdict };
     };
-    let first = Vec::with_capacity(alloc, places.customers.len());
-    let second = Vec::with_capacity(alloc, places.lanes.len());
-    let third = Vec::with_capacity(alloc, places.bridges.len());
-    let (Ok(first), Ok(second), Ok(third)) = (first, second, third) else {
+    let started = run_on(rt, &floor, places, gate, limits);
+    if let Err(places) = started {
+        let verdict = Err(WorkFault::Spawn);
         return Worked { places, verdict };
-    };
-    let (mut customers, mut lanes, mut bridges) = (customers, lanes, bridges);
-    let (mut first, mut second, mut third) = (first, second, third);
-    start_all(
-        scope,
-        rt,
-        places.customers,
-        &mut customers,
-        gate,
-        words,
-        limits,
-    );
-    start_all(scope, rt, places.lanes, &mut lanes, gate, words, limits);
-    start_all(scope, rt, places.bridges, &mut bridges, gate, words, limits);
-    let is_let = words.begin();
-    let have_customers_begun = join_all(rt, &mut customers, &mut first);
-    let have_lanes_begun = join_all(rt, &mut lanes, &mut second);
-    let have_bridges_begun = join_all(rt, &mut bridges, &mut third);
-    let have_begun = is_let | have_customers_begun | have_lanes_begun | have_bridges_begun;
+    }
     let places = Places {
-        customers: first,
-        lanes: second,
-        bridges: third,
+        customers: collect_row(rt, floor.customers, rooms.customers),
+        lanes: collect_row(rt, floor.lanes, rooms.lanes),
+        bridges: collect_row(rt, floor.bridges, rooms.bridges),
     };
-    let verdict = verdict_of(have_begun);
-    Worked { places, verdict }
-}
-
-/// Returns the verdict. No worker began if one could not be started.
-///
-/// # Errors
-///
-/// `Spawn` if no worker began.
-fn verdict_of(have_begun: bool) -> Result<(), WorkFault>
-    ensures { IfErr result (λ fault. have_begun ≡ false) }
-{
-    if have_begun {
-        Ok(())
-    } else {
-        Err(WorkFault::Spawn)
+    Worked {
+        places,
+        verdict: Ok(()),
     }
 }
 
-/// Runs a worker for each place in a thread of its own, and joins them all. Workers sleep on the bells of the gate.
-/// `left` counts what there is to do at the start. Each turn reports how that count changes, and all workers end when
-/// it is 0.
+/// Runs a worker for each place in a thread of its own, and joins them all. Workers sleep on the bells of the gate;
+/// meanwhile the workers of places beside theirs may take turns of their places. `left` counts what there is to do at
+/// the start. Each turn reports how that count changes, and all workers end when it is 0.
 ///
 /// Each place comes back with what it was given, and as it may be between turns. The verdict is `Memory` if an
 /// allocation failed before the workers were started, and `Spawn` if a thread could not be started. No worker takes a
@@ -265,17 +427,5 @@ pub fn run_all<
     ensures bridges { AreBack B.given B.fits places.bridges.items result.places.bridges.items }
     ensures untouched { IfErr result.verdict (λ fault. AreUntouched places result.places) }
 {
-    let words = Words::new(left);
-    let shared = &words;
-    thread::scope(
-        thread::scope_env(),
-        rt,
-        move |scope| -> Worked<C, L, B>
-            requires { AllFit C.fits L.fits B.fits places }
-            ensures customers { AreBack C.given C.fits places.customers.items result.places.customers.items }
-            ensures lanes { AreBack L.given L.fits places.lanes.items result.places.lanes.items }
-            ensures bridges { AreBack B.given B.fits places.bridges.items result.places.bridges.items }
-            ensures untouched { IfErr result.verdict (λ fault. AreUntouched places result.places) }
-        { in_scope(scope, rt, alloc, places, gate, shared, limits) },
-    )
+    run_known::<Brand, Brand, Brand, C, L, B, G, R>(rt, alloc, places, gate, limits, left)
 }

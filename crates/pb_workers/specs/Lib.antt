@@ -1,4 +1,6 @@
 pub mod Ports
+pub mod Facts
+pub mod GiftCodes
 pub mod Bridges
 pub mod Stations
 pub mod Workers

@@ -253,6 +253,16 @@ impl<W: Wiring> BridgeWorker<W> {
         turn(Ok(false), 0, 0)
     }
 
+    /// Checks whether an item waits at a port.
+    pub(crate) fn has_waiting(&self) -> bool {
+        for place in 0..self.ports.len() {
+            if self.bridge.waiting(self.ports[place]) > 0 {
+                return true;
+            }
+        }
+        false
+    }
+
     /// Lets the ring ends of a customer port and of this bridge's local port meet, once both workers are back. What the
     /// bridge received is a beginning of what the port fed, and what the port delivered is a beginning of what the
     /// bridge transmitted.

@@ -1,6 +1,8 @@
 //! The turns of a bridge's worker.
 
+ghost use Rattle.std.specs.Coded.{Unit-prop};
 ghost use Rattle.std.specs.Prelude.{map};
+ghost use Rattle.pb_workers.specs.GiftCodes.{bridge_gift};
 ghost use Rattle.pb_workers.specs.Bridges.{view_of};
 ghost use Rattle.pb_workers.specs.Stations.{stations_of};
 
@@ -34,12 +36,21 @@ impl<W: Wiring> Work for BridgeWorker<W> {
 
     ghost fits = { λ w. Unit {0} };
 
+    ghost coded = { bridge_gift };
+
+    ghost is_fact = { λ w. Unit-prop };
+
     ghost shown_of = { λ w port. view_of w.bridge port };
 
     ghost stations_of = { λ w. stations_of w.bridge };
 
     fn place(&self) -> Place {
         Place::Bridge(self.number)
+    }
+
+    /// Checks whether an item waits at a port: after an idle turn, for a ring that was full.
+    fn is_held_up(&self) -> bool {
+        self.has_waiting()
     }
 
     fn turn(&mut self, moment: Moment) -> Turn {

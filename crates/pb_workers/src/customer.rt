@@ -1,6 +1,8 @@
 //! The worker of a customer port.
 
 ghost use Rattle.std.specs.Prelude.{◌≡◌, ◌++◌, [], true, Ok};
+ghost use Rattle.pb_workers.specs.GiftCodes.{customer_gift};
+ghost use Rattle.pb_workers.specs.Facts.{KeepsPort-prop};
 ghost use Rattle.pb_workers.specs.Workers.{IsPortKept, IsSameCustomer};
 
 use crate::access::{Access, Last};
@@ -196,6 +198,10 @@ impl<W: Wiring, P: Port> Work for CustomerWorker<W, P> {
 
     ghost fits = { λ w. IsPortKept P.script P.tally w };
 
+    ghost coded = { customer_gift P.row.coded };
+
+    ghost is_fact = { λ w. KeepsPort-prop P.script P.tally w.was.value w.port w.access.place.steps w.access.book.last };
+
     fn place(&self) -> Place {
         Place::Customer(self.access.book.number)
     }
@@ -213,6 +219,16 @@ impl<W: Wiring, P: Port> Work for CustomerWorker<W, P> {
         self.access.book.last != Last::More
             && self.access.offered.is_none()
             && self.port.unsent().is_empty()
+    }
+
+    /// Checks whether a frame waits for the ring to the bridge.
+    fn is_held_up(&self) -> bool {
+        !self.access.place.is_hand_empty()
+    }
+
+    /// Checks whether the port's devices are watched: those never wait.
+    fn may_be_helped(&self, is_watched: bool) -> bool {
+        is_watched
     }
 
     fn turn(&mut self, moment: Moment) -> Turn {

@@ -1,8 +1,10 @@
 //! The worker of a lane.
 
 ghost use Rattle.std.specs.Prelude.{◌≡◌, [], true};
+ghost use Rattle.std.specs.Coded.{Unit-prop};
 ghost use Rattle.rtrb.specs.Ring.{sent, received};
 ghost use Rattle.pb_lan.specs.LaneLists.{taken, put};
+ghost use Rattle.pb_workers.specs.GiftCodes.{lane_gift};
 ghost use Rattle.pb_workers.specs.Recording.{AreRecorded};
 
 use crate::gift::LaneGift;
@@ -178,6 +180,10 @@ impl<W: Wiring, P: Port> Work for LaneWorker<W, P> {
 
     ghost fits = { λ w. Unit {0} };
 
+    ghost coded = { lane_gift };
+
+    ghost is_fact = { λ w. Unit-prop };
+
     fn place(&self) -> Place {
         Place::Lane(self.number)
     }
@@ -189,6 +195,16 @@ impl<W: Wiring, P: Port> Work for LaneWorker<W, P> {
     /// Checks whether nothing waits in a tap, and nothing can come to one over a ring.
     fn may_sleep(&self, _is_watched: bool) -> bool {
         self.taps.as_slice().iter().all(|tap| tap.may_sleep())
+    }
+
+    /// Checks whether an item is in hand.
+    fn is_held_up(&self) -> bool {
+        !self.lane.is_hand_empty()
+    }
+
+    /// Checks whether the lane has no taps: their files may be slow.
+    fn may_be_helped(&self, _is_watched: bool) -> bool {
+        self.taps.is_empty()
     }
 
     fn turn(&mut self, moment: Moment) -> Turn {

@@ -2,6 +2,7 @@
 
 mod sleeping;
 
+ghost use Rattle.std.specs.Coded.{Unit-prop, coded_ℕ};
 ghost use Rattle.std.specs.Prelude.{◌==◌, Some, None, if◌then◌else◌};
 
 use pb_lan::{Limits, Place, PortState, Reason};
@@ -40,6 +41,10 @@ impl Work for Desk {
     ghost given = { λ d. 0 };
 
     ghost fits = { λ d. Unit {0} };
+
+    ghost coded = { coded_ℕ };
+
+    ghost is_fact = { λ d. Unit-prop };
 
     ghost shown_of = { λ d port. if port == 3 then Some d.view else None };
 

@@ -212,3 +212,77 @@ fn a_worker_that_sleeps_in_the_gate_is_roused(rt: HostRuntime) -> Result<(), Fai
     }
     Ok(())
 }
+
+/// A gate in which the worker of the first lane sleeps until another one has taken a turn of the lane. The first bridge
+/// begins when it sleeps.
+#[derive(Drop)]
+struct Nursery {
+    bells: Bells,
+    /// 1 while the lane's worker sleeps.
+    asleep: AtomicU64,
+    /// How many turns of the lane were taken meanwhile.
+    helped: AtomicU64,
+}
+
+/// Waits until a number is not 0, for so many looks at most. Returns whether it came to that.
+fn comes(number: &AtomicU64) -> bool {
+    for _ in 0..LOOKS {
+        if number.load(Ordering::SeqCst) > 0 {
+            return true;
+        }
+        thread::yield_now();
+    }
+    false
+}
+
+impl Gate for Nursery {
+    fn pass(&self, place: Place, turn: u64) -> Go {
+        if place == Place::Lane(1) && self.asleep.load(Ordering::SeqCst) == 1 {
+            self.helped.fetch_add(1, Ordering::SeqCst);
+        }
+        if place == Place::Bridge(1) && turn == 0 && !comes(&self.asleep) {
+            return Go::Stop;
+        }
+        Go::Go
+    }
+
+    fn lets_sleep(&self, _place: Place) -> bool {
+        true
+    }
+
+    fn bells(&self) -> Option<&Bells> {
+        Some(&self.bells)
+    }
+
+    fn sleep(&self, place: Place, _time: Duration) -> Option<bool> {
+        if place != Place::Lane(1) {
+            return None;
+        }
+        self.asleep.store(1, Ordering::SeqCst);
+        let is_helped = comes(&self.helped);
+        self.asleep.store(0, Ordering::SeqCst);
+        Some(is_helped)
+    }
+}
+
+/// Checks that the worker of a bridge takes turns of the lane to which it sends, while the lane's worker sleeps.
+#[test]
+fn a_worker_helps_a_place_whose_worker_sleeps(rt: HostRuntime) -> Result<(), Fail> {
+    let gate = Nursery {
+        bells: Bells::new(rt.alloc(), &plan(rt.alloc())?)?,
+        asleep: AtomicU64::new(0),
+        helped: AtomicU64::new(0),
+    };
+    let mut places = office(rt.alloc(), 0)?;
+    if let Some(desk) = places.bridges.first_mut() {
+        desk.jobs = 2;
+    }
+    let limits = limits_of(1_000_000_000, 0);
+    let Worked { places, verdict } = run_all(&rt, rt.alloc(), places, &gate, limits, 2);
+    assert!(rt; verdict.is_ok());
+    assert!(rt; gate.helped.load(Ordering::SeqCst) > 0);
+    for desk in together(places)? {
+        assert!(rt; desk.jobs == 0 && desk.finish == Some(Finish::Told));
+    }
+    Ok(())
+}
