@@ -3,12 +3,13 @@ ghost use Rattle.std.specs.Prelude.{◌≡◌, ◌^◌, ◌<◌, ◌≤◌, ◌|
 ghost use Rattle.pb_port.specs.Held.{held};
 ghost use Rattle.pb_port.specs.declared.framing.Framing.TheVariants.{Socket as socket_framing};
 ghost use Rattle.pb_port.specs.declared.stream_position.StreamPosition.TheVariants.{Lengths as before_length};
-ghost use Rattle.pb_port.specs.Ports.{PolledBy, OfferedBy, EndedBy, PumpedBy, given_count};
+ghost use Rattle.pb_port.specs.Ports.{PolledBy, GivenBy, OfferedBy, TalliedBy, EndedBy, PumpedBy, given_count};
 ghost use Rattle.pb_port.specs.Reading.{held_sum};
 
 use crate::answers::{Offered, Polled, Pumped, Shelf};
 use crate::framing::Framing;
 use crate::line::{Line, Parting};
+use crate::passed::Passed;
 use crate::port::Port;
 use crate::reader::FrameReader;
 use crate::sender::{Sender, counted};
@@ -27,6 +28,7 @@ use std::collections::VecDeque;
 pub struct StayingPort<S> {
     frames: FrameReader,
     sender: Sender,
+    passed: Passed,
     /// The number of frames that polls returned since the peer came.
     entered: u64,
     /// The number of frames that pumps sent since the peer came.
@@ -55,10 +57,12 @@ impl<S: Line> StayingPort<S> {
         ensures kept { (result.sender.capacity ≡ capacity) × (result.sender.shelved ≡ false) }
         ensures counts { (result.entered ≡ 0) × (result.left ≡ 0) }
         ensures line { result.line ≡ line }
+        ensures passed { (result.passed.given.items ≡ []) × (result.passed.taken.items ≡ []) }
     {
         StayingPort {
             frames: FrameReader::new(alloc, StreamPosition::Lengths),
             sender: Sender::new(alloc, Framing::Socket, capacity),
+            passed: Passed::new(),
             entered: 0,
             left: 0,
             line,
@@ -70,7 +74,7 @@ impl<S: Line> StayingPort<S> {
     fn leave(&mut self, sent: usize, dropped: usize)
         requires { IsNewSender self.old.sender }
         ensures leaves { Leaves S.renews sent dropped self.old.line self.old self.new }
-        ensures kept { self.new.sender ≡ self.old.sender }
+        ensures kept { (self.new.sender ≡ self.old.sender) × (self.new.passed ≡ self.old.passed) }
     {
         let unread = self.frames.begun_frames();
         let parting = Parting {
@@ -89,7 +93,7 @@ impl<S: Line> StayingPort<S> {
         ensures pumped { PumpedBy result self.old.sender.unsent.items self.new.sender.unsent.items false false 0 0 }
         ensures leaves { Leaves S.renews 0 (length self.old.sender.unsent.items) self.old.line self.old self.new }
         ensures kept { (self.new.sender.capacity ≡ self.old.sender.capacity)
-            × (self.new.sender.shelved ≡ self.old.sender.shelved) }
+            × (self.new.sender.shelved ≡ self.old.sender.shelved) × (self.new.passed ≡ self.old.passed) }
     {
         let waiting = self.sender.unsent().len();
         self.sender.renew();
@@ -103,7 +107,7 @@ impl<S: Line> StayingPort<S> {
         ensures octets { Stays S.written S.failed result now self.old self.new
             ⊎ LeavesAtWrite S.written S.failed S.renews now self.old self.new }
         ensures kept { (self.new.sender.capacity ≡ self.old.sender.capacity)
-            × (self.new.sender.shelved ≡ self.old.sender.shelved) }
+            × (self.new.sender.shelved ≡ self.old.sender.shelved) × (self.new.passed ≡ self.old.passed) }
     {
         let waiting = self.sender.unsent().len();
         let pumped = self.sender.pump(&mut self.line, u64::from(now));
@@ -125,7 +129,11 @@ impl<S: Line + Drop> Port for StayingPort<S> {
 
     ghost script = { λ p. None };
 
-    ghost tally = { λ p. None };
+    ghost given = { λ p. p.passed.given.items };
+
+    ghost tally = { λ p. p.passed.taken.items };
+
+    ghost keeps_sent = { λ p. false };
 
     ghost waiting = { λ p. p.sender.unsent.items };
 
@@ -142,8 +150,9 @@ impl<S: Line + Drop> Port for StayingPort<S> {
     /// Returns the next frame of the peer, after at most 64 reads. Once the peer has left, returns `Nothing` without a
     /// read until the next pump.
     fn poll(&mut self) -> Polled
-        ensures script { PolledBy result None None }
-        ensures endless { EndedBy result None None }
+        ensures endless { PolledBy result None None × EndedBy result None None }
+        ensures given { GivenBy result self.old.passed.given.items self.new.passed.given.items
+            × (self.new.passed.taken ≡ self.old.passed.taken) }
         ensures octets { PollsFrom (heard result self.new.frames.ended) self.old.frames self.new.frames
             (S.unread self.old.line) (S.unread self.new.line) }
         ensures short { HoldsShort (heard result self.new.frames.ended) self.old.frames self.new.frames }
@@ -159,6 +168,7 @@ impl<S: Line + Drop> Port for StayingPort<S> {
             Some(_) => Polled::Nothing,
             None => {
                 self.entered = self.entered.saturating_add(answer.given_count());
+                self.passed.note_poll(&answer);
                 answer
             }
         }
@@ -166,15 +176,19 @@ impl<S: Line + Drop> Port for StayingPort<S> {
 
     fn offer(&mut self, f: &Bytes) -> Offered
         requires { length f.now < 65536 }
-        ensures offered { OfferedBy result f.now (self.old.sender.shelved || false) self.old.sender.capacity None None
+        ensures offered { OfferedBy result f.now (self.old.sender.shelved || false) self.old.sender.capacity
             self.old.sender.unsent.items self.new.sender.unsent.items }
+        ensures passed { TalliedBy result f.now self.old.passed.taken.items self.new.passed.taken.items
+            × (self.new.passed.given ≡ self.old.passed.given) }
         ensures begun { IsBegunAlike self.old.sender self.new.sender }
         ensures kept { (self.new.sender.capacity ≡ self.old.sender.capacity)
             × (self.new.sender.shelved ≡ self.old.sender.shelved) }
         ensures others { (self.new.frames ≡ self.old.frames) × (self.new.line ≡ self.old.line)
             × (self.new.entered ≡ self.old.entered) × (self.new.left ≡ self.old.left) }
     {
-        self.sender.offer(f)
+        let offered = self.sender.offer(f);
+        self.passed.note_offer(offered, f);
+        offered
     }
 
     /// Sends frames that wait to the peer, oldest first, by at most 64 writes. If the peer has left, or leaves because
@@ -187,7 +201,7 @@ impl<S: Line + Drop> Port for StayingPort<S> {
         ensures here { IfNone self.old.frames.ended (Stays S.written S.failed result now self.old self.new
             ⊎ LeavesAtWrite S.written S.failed S.renews now self.old self.new) }
         ensures kept { (self.new.sender.capacity ≡ self.old.sender.capacity)
-            × (self.new.sender.shelved ≡ self.old.sender.shelved) }
+            × (self.new.sender.shelved ≡ self.old.sender.shelved) × (self.new.passed ≡ self.old.passed) }
     {
         match self.frames.ending() {
             Some(_) => self.drop_waiting(),
@@ -204,9 +218,11 @@ impl<S: Line + Drop> Port for StayingPort<S> {
         ensures shelf { (home.new.unsent.items ≡ self.old.sender.unsent.items) × (home.new.sent.items ≡ []) }
         ensures empty { (self.new.sender.unsent.items ≡ []) × (self.new.sender.shelved ≡ true) }
         ensures kept { self.new.sender.capacity ≡ self.old.sender.capacity }
+        ensures passed { (self.new.passed.taken.items ≡ []) × (self.new.passed.given ≡ self.old.passed.given) }
         ensures others { (self.new.frames ≡ self.old.frames) × (self.new.line ≡ self.old.line)
             × (self.new.entered ≡ self.old.entered) × (self.new.left ≡ self.old.left) }
     {
+        self.passed.note_shelf();
         self.sender.shelve(home)
     }
 }

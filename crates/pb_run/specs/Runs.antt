@@ -1,8 +1,8 @@
 -- The guarantee of a run: of its record, its ports and its end.
-use Rattle.std.specs.Prelude.{◌≡◌, ◌↔◌, ℕ, Bool, IfOk, Option, Result, None, List, length, map, vec_len, unwrap_or, All}
+use Rattle.std.specs.Prelude.{◌≡◌, ◌↔◌, ℕ, Bool, false, IfOk, Option, Result, None, List, [], length, map, vec_len, unwrap_or, All}
 use Rattle.std.specs.declared.vec.Vec.{Vec}
 use Rattle.pb_frame.specs.declared.memory.Memory.{Memory}
-use Rattle.pb_lan.specs.Counts.{entered, left, IsDrained}
+use Rattle.pb_lan.specs.Counts.{IsDrained}
 use Rattle.pb_lan.specs.Headline.{IsFaithful}
 use Rattle.pb_lan.specs.Laws.{AreTracedFromStart, NoPortIsSet}
 use Rattle.pb_lan.specs.Numbering.{numbered}
@@ -14,7 +14,7 @@ use Rattle.pb_lan.specs.declared.step.Mark.{Mark}
 use Rattle.pb_lan.specs.declared.step.Step.{Step}
 use Rattle.pb_relay.specs.Protocol.{spanning_tree}
 use Rattle.pb_relay.specs.Settled.{TellsSettled}
-use Rattle.pb_workers.specs.Ports.{Frames, in_front, behind, IsEnded}
+use Rattle.pb_workers.specs.Ports.{Frames, PortFrames, KeepsPort}
 use Rattle.pb_workers.specs.declared.access.Last.{Last}
 use Rattle.pb_workers.specs.declared.access.Last.TheVariants.{More, End}
 use Rattle.pb_run.specs.declared.ended.Ended.{Ended}
@@ -30,22 +30,19 @@ frames_of lists number = unwrap_or (numbered lists number) None
 abbrev pub last_of : List Last → ℕ → Last
 last_of lasts number = unwrap_or (numbered lasts number) More
 
--- the scripts and the tallies of ports
-pub record Lists : Type 0 where
-  pub scripts : List (Option Frames)
-  pub tallies : List (Option Frames)
+-- a port without frames, for a number that no port has
+abbrev pub no_port : PortFrames
+no_port = record { script = None; given = []; tally = []; waiting = []; is_over = false }
 
--- the scripts and the tallies that these ports keep
-abbrev pub lists_of : {P : Type 0} → (P → Option Frames) → (P → Option Frames) → List P → Lists
-lists_of script tally ports = record { scripts = map script ports; tallies = map tally ports }
+-- the port of this number
+abbrev pub port_of : List PortFrames → ℕ → PortFrames
+port_of ports number = unwrap_or (numbered ports number) no_port
 
--- what each port gave is what entered there, and what it took is what left; a script whose end was reported is used up
-pub record ArePortsKept (before after : Lists) (customers : List (List Step)) (lasts : List Last) : Type 0 where
-  pub port_count : length after.scripts ≡ length before.scripts
-  pub last_count : length lasts ≡ length before.scripts
-  pub script : (number : ℕ) → frames_of before.scripts number ≡ in_front (entered (steps_of customers number)) (frames_of after.scripts number)
-  pub tally : (number : ℕ) → frames_of after.tallies number ≡ behind (frames_of before.tallies number) (left (steps_of customers number))
-  pub used_up : (number : ℕ) → IsEnded (last_of lasts number) (frames_of after.scripts number)
+-- each port gave what entered there and took what left, and frames were given up only where `KeepsPort` allows it
+pub record ArePortsKept (before after : List PortFrames) (customers : List (List Step)) (lasts : List Last) : Type 0 where
+  pub port_count : length after ≡ length before
+  pub last_count : length lasts ≡ length before
+  pub kept : (number : ℕ) → KeepsPort (port_of before number) (port_of after number) (steps_of customers number) (last_of lasts number)
 
 -- the run reports that it has drained exactly if every port came to its end and every frame has drained
 abbrev pub TellsEnded : Plan → Record → List Last → Ended → Type 0
@@ -60,11 +57,11 @@ pub record IsTrueRecord (plan : Plan) (counts : Record) : Type 0 where
 
 -- the guarantee of a run: its record is lawful and faithful to what entered, its ports gave what entered and took what
 -- left, its reports of its end and of its spanning trees are true, and there was one port for each customer port of the
--- plan. The ports keep these scripts and tallies
-pub record IsRun {P Z : Type 0} (script tally : P → Option Frames) (plan : Plan) (before after : Vec P Z) (counts : Record)
+-- plan. This is what contracts see of a port
+pub record IsRun {P Z : Type 0} (view : P → PortFrames) (plan : Plan) (before after : Vec P Z) (counts : Record)
     (lasts : List Last) (end : Ended) (answer : Result (Option Bool) Memory) : Type 0 where
   pub steps : IsTrueRecord plan counts
-  pub ports : ArePortsKept (lists_of script tally before.items) (lists_of script tally after.items) counts.customers lasts
+  pub ports : ArePortsKept (map view before.items) (map view after.items) counts.customers lasts
   pub ended : TellsEnded plan counts lasts end
   pub settled : IfOk answer (TellsSettled plan counts)
   pub count : vec_len before ≡ length plan.customers

@@ -30,7 +30,7 @@ pub(crate) fn attended<W: Wiring, P: Port>(
     ensures ports { map (λ w. w.was.value) result.items ≡ ports.items }
     ensures ports_now { map (λ w. w.port) result.items ≡ ports.items }
     ensures gifts { map (λ w. given_access w.access) result.items ≡ map given_access accesses.items }
-    ensures keeps { All (IsPortKept P.script P.tally) result.items }
+    ensures keeps { All (IsPortKept P.Port) result.items }
 {
     let (mut accesses, mut workers) = (accesses, room);
     for port in ports {

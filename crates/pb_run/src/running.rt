@@ -8,6 +8,7 @@ ghost use Rattle.pb_run.specs.Runs.{IsTrueRecord, IsRun, HasNotRun};
 ghost use Rattle.pb_run.specs.Taps.{ComesBack};
 ghost use Rattle.pb_run.specs.Wires.{AreRingsOf};
 ghost use Rattle.pb_run.specs.Workers.{IsBuilt, AreBack};
+ghost use Rattle.pb_workers.specs.Ports.{port_frames};
 ghost use Rattle.pb_workers.specs.Workers.{IsModeFor};
 
 use crate::build::{Built, places_of};
@@ -161,8 +162,8 @@ fn run_built<W: Wiring + Send, G: Gate, R: Threads + Wait + Clock + Sync>(
     requires count { vec_len ports ≡ length plan.now.customers }
     requires built { IsBuilt plan.now built }
     requires rooms { HasRooms plan.now rooms }
-    ensures run { IfOk result (λ kept. IsRun (λ b. script b) (λ b. tally b) plan.now ports kept.ran.ports
-        kept.ran.counts kept.ran.last.items kept.ran.ended kept.ran.settled) }
+    ensures run { IfOk result (λ kept. IsRun (λ b. port_frames (Port-box b) b.value)
+        plan.now ports kept.ran.ports kept.ran.counts kept.ran.last.items kept.ran.ended kept.ran.settled) }
     ensures mode { IfOk result (λ kept. FollowsMode W.sets W.waits kept.ran.counts) }
     ensures back { IfOk result (λ kept. ComesBack W.keeps kept.ran.counts kept.rec kept.taps.items) }
     ensures failed { IfErr result (λ fault. (fault.cause ≡ RunCause.PortCount → ⊥)
@@ -247,8 +248,8 @@ fn run_wired<W: Wiring + Send, G: Gate, R: Threads + Wait + Clock + Sync>(
     requires sound { IsSound plan.now }
     requires count { vec_len ports ≡ length plan.now.customers }
     requires rings { AreRingsOf plan.now W.rings rings }
-    ensures run { IfOk result (λ kept. IsRun (λ b. script b) (λ b. tally b) plan.now ports kept.ran.ports
-        kept.ran.counts kept.ran.last.items kept.ran.ended kept.ran.settled) }
+    ensures run { IfOk result (λ kept. IsRun (λ b. port_frames (Port-box b) b.value)
+        plan.now ports kept.ran.ports kept.ran.counts kept.ran.last.items kept.ran.ended kept.ran.settled) }
     ensures mode { IfOk result (λ kept. FollowsMode W.sets W.waits kept.ran.counts) }
     ensures back { IfOk result (λ kept. ComesBack W.keeps kept.ran.counts kept.rec kept.taps.items) }
     ensures failed { IfErr result (λ fault. (fault.cause ≡ RunCause.PortCount → ⊥)
@@ -280,8 +281,8 @@ pub(crate) fn run_places<G: Gate, R: Threads + Wait + Clock + Sync>(
     mode: Mode,
 ) -> Result<WholeRun, RunFault>
     requires { IsSound plan.now }
-    ensures run { IfOk result (λ kept. IsRun (λ b. script b) (λ b. tally b) plan.now ports kept.ran.ports
-        kept.ran.counts kept.ran.last.items kept.ran.ended kept.ran.settled) }
+    ensures run { IfOk result (λ kept. IsRun (λ b. port_frames (Port-box b) b.value)
+        plan.now ports kept.ran.ports kept.ran.counts kept.ran.last.items kept.ran.ended kept.ran.settled) }
     ensures mode { IfOk result (λ kept. FollowsMode mode.sets mode.waits kept.ran.counts) }
     ensures back { IfOk result (λ kept. ComesBack mode.keeps kept.ran.counts kept.rec kept.taps.items) }
     ensures failed { IfErr result (λ fault. HasNotRun plan.now ports fault.ports fault.cause) }

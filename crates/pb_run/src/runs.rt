@@ -7,12 +7,14 @@ ghost use Rattle.pb_lan.specs.declared.plan.Spanning.TheVariants.{Fixed};
 ghost use Rattle.pb_run.specs.Runs.{IsRun, HasNotRun};
 ghost use Rattle.pb_run.specs.Taps.{AreTapped};
 ghost use Rattle.pb_workers.specs.Lossless.{NoFullQueueRefuses};
+ghost use Rattle.pb_workers.specs.Ports.{port_frames};
 
 use crate::fault::RunFault;
 use crate::outside::Held;
 use crate::running::{KeptRun, Ran, TappedRun, WholeRun, run_places};
 use crate::taps::TapPort;
 use pb_lan::{Limits, Plan};
+use pb_port::Port;
 use pb_threads::Gate;
 use pb_workers::Mode;
 use std::alloc::Global;
@@ -35,8 +37,11 @@ use std::time::Clock;
 /// - No frame is multiplied.
 /// - Frames of one port and one priority keep their order.
 ///
-/// For each port that keeps a script, the script before the run is what entered followed by the script that remains.
-/// For each port that keeps a tally, the tally after the run is the tally before followed by what left.
+/// What polls of a port returned by the end is what they returned before the run, followed by what entered there. What
+/// the port took is what it took before, followed by what left. The frames that it sent in the run, followed by those
+/// that still wait in it, are those that waited before, followed by what left. A frame is given up only if the port was
+/// shelved, a write of it failed, or the frame has more than 65,535 octets. For a port that keeps a script, the script
+/// before the run is what entered, followed by the script that remains.
 ///
 /// If the run is to be lossless, an item waits on its ring while a queue is full to which its bridge may copy it. No
 /// bridge refuses a copy of a frame because a queue is full. Over a loop of links frames can wait for each other: then
@@ -63,8 +68,8 @@ pub fn run<G: Gate, R: Threads + Wait + Clock + Sync>(
     is_lossless: bool,
 ) -> Result<Ran, RunFault>
     requires { IsSound plan.now }
-    ensures run { IfOk result (λ ran. IsRun (λ b. script b) (λ b. tally b) plan.now ports ran.ports
-        ran.counts ran.last.items ran.ended ran.settled) }
+    ensures run { IfOk result (λ ran. IsRun (λ b. port_frames (Port-box b) b.value)
+        plan.now ports ran.ports ran.counts ran.last.items ran.ended ran.settled) }
     ensures planned { IfOk result (λ ran. plan.now.spanning ≡ Fixed → AreTracedFromStart plan.now ran.counts) }
     ensures lossless { IfOk result (λ ran. is_lossless ≡ true → NoFullQueueRefuses ran.counts) }
     ensures failed { IfErr result (λ fault. HasNotRun plan.now ports fault.ports fault.cause) }
@@ -98,8 +103,8 @@ pub fn run_set<G: Gate, R: Threads + Wait + Clock + Sync>(
     is_lossless: bool,
 ) -> Result<Ran, RunFault>
     requires { IsSound plan.now }
-    ensures run { IfOk result (λ ran. IsRun (λ b. script b) (λ b. tally b) plan.now ports ran.ports
-        ran.counts ran.last.items ran.ended ran.settled) }
+    ensures run { IfOk result (λ ran. IsRun (λ b. port_frames (Port-box b) b.value)
+        plan.now ports ran.ports ran.counts ran.last.items ran.ended ran.settled) }
     ensures lossless { IfOk result (λ ran. is_lossless ≡ true → NoFullQueueRefuses ran.counts) }
     ensures failed { IfErr result (λ fault. HasNotRun plan.now ports fault.ports fault.cause) }
 {
@@ -132,8 +137,8 @@ pub fn run_tapped<G: Gate, R: Threads + Wait + Clock + Sync>(
     is_lossless: bool,
 ) -> Result<TappedRun, RunFault>
     requires { IsSound plan.now }
-    ensures run { IfOk result (λ r. IsRun (λ b. script b) (λ b. tally b) plan.now ports r.ran.ports
-        r.ran.counts r.ran.last.items r.ran.ended r.ran.settled) }
+    ensures run { IfOk result (λ r. IsRun (λ b. port_frames (Port-box b) b.value)
+        plan.now ports r.ran.ports r.ran.counts r.ran.last.items r.ran.ended r.ran.settled) }
     ensures lossless { IfOk result (λ r. is_lossless ≡ true → NoFullQueueRefuses r.ran.counts) }
     ensures taps { IfOk result (λ r. AreTapped r.ran.counts.lanes r.taps.items) }
     ensures failed { IfErr result (λ fault. HasNotRun plan.now ports fault.ports fault.cause) }
@@ -162,8 +167,8 @@ pub fn run_kept<G: Gate, R: Threads + Wait + Clock + Sync>(
     is_lossless: bool,
 ) -> Result<KeptRun, RunFault>
     requires { IsSound plan.now }
-    ensures run { IfOk result (λ kept. IsRun (λ b. script b) (λ b. tally b) plan.now ports kept.ran.ports
-        kept.rec kept.ran.last.items kept.ran.ended kept.ran.settled) }
+    ensures run { IfOk result (λ kept. IsRun (λ b. port_frames (Port-box b) b.value)
+        plan.now ports kept.ran.ports kept.rec kept.ran.last.items kept.ran.ended kept.ran.settled) }
     ensures planned { IfOk result (λ kept. plan.now.spanning ≡ Fixed → AreTracedFromStart plan.now kept.rec) }
     ensures lossless { IfOk result (λ kept. is_lossless ≡ true → NoFullQueueRefuses kept.rec) }
     ensures counts { IfOk result (λ kept. kept.ran.counts ≡ kept.rec) }

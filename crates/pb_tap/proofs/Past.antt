@@ -1,12 +1,11 @@
 -- The lists of a tape, with one more frame.
-use Rattle.std.proofs.Common.{◌≡◌, ℕ, Bool, true, false, List, [], ◌∷◌, ◌++◌, map, Option, Some, None, refl, sym, ap}
-use Rattle.std.proofs.Common.{◌∙◌}
-use Rattle.std.proofs.Common.{append-nil}
+use Rattle.std.proofs.Common.{◌≡◌, ℕ, Bool, true, false, List, [], ◌∷◌, ◌++◌, map, sym, ap}
+use Rattle.std.proofs.Common.{◌∙◌, append-nil}
 use Rattle.std.proofs.lemmas.List.{append_assoc, map-append}
 use Rattle.std.proofs.lemmas.List.Elements.{filter-append}
 use Rattle.std.specs.List.{filter}
-use Rattle.pb_port.specs.Ports.{Frames, AddsFrame}
-use Rattle.pb_tap.specs.Crossings.{behind, is_of, wires_of}
+use Rattle.pb_port.specs.Ports.{Frames}
+use Rattle.pb_tap.specs.Crossings.{is_of, wires_of}
 use Rattle.pb_tap.specs.Takings.{Takes}
 use Rattle.pb_tap.specs.declared.crossing.Crossing.{Crossing}
 use Rattle.pb_tap.specs.declared.tape.Tape.{Tape}
@@ -48,53 +47,38 @@ pub shifted : {X : Type 0} (taken taken' rest rest' seen : List X) (x : X) → t
 shifted taken taken' rest rest' seen x parts one more none =
     ap (λ xs. taken' ++ xs) none ∙ append-nil taken' ∙ more ∙ ap (λ xs. taken ++ xs) (sym one) ∙ parts
 
--- no frames follow a list
-pub behind_none : (list : Option Frames) → list ≡ behind list []
-behind_none None = refl
-behind_none (Some frames) = ap (λ (xs : Frames). Some xs) (sym (append-nil frames))
-
--- frames follow those that follow a list
-pub behind_both : (list : Option Frames) (xs ys : Frames) → behind (behind list xs) ys ≡ behind list (xs ++ ys)
-behind_both None xs ys = refl
-behind_both (Some frames) xs ys = ap (λ (zs : Frames). Some zs) (append_assoc frames xs ys)
-
--- a list that is kept grows by the frame that was taken
-pub behind_one : (was now : Option Frames) (wire : List ℕ) → AddsFrame wire was now → now ≡ behind was (wire ∷ [])
-behind_one None now wire added = added
-behind_one (Some list) now wire added = added
-
 -- nothing is taken
-pub took_none : {P : Type 0} (tally : P → Option Frames) (old new : Tape P) → new.taken.items ≡ old.taken.items
+pub took_none : {P : Type 0} (tally : P → Frames) (old new : Tape P) → new.taken.items ≡ old.taken.items
     → tally new.port ≡ tally old.port → Takes tally old new
 took_none tally old new same kept = record {
   more = [];
   grown = same ∙ sym (append-nil old.taken.items);
-  kept = kept ∙ behind_none (tally old.port);
+  kept = kept ∙ sym (append-nil (tally old.port));
 }
 
 -- one frame is taken
-pub took_one : {P : Type 0} (tally : P → Option Frames) (old new : Tape P) (c : Crossing)
-    → new.taken.items ≡ old.taken.items ++ c ∷ [] → AddsFrame c.wire (tally old.port) (tally new.port)
+pub took_one : {P : Type 0} (tally : P → Frames) (old new : Tape P) (c : Crossing)
+    → new.taken.items ≡ old.taken.items ++ c ∷ [] → tally new.port ≡ tally old.port ++ c.wire ∷ []
     → Takes tally old new
 took_one tally old new c grown added = record {
   more = c ∷ [];
   grown = grown;
-  kept = behind_one (tally old.port) (tally new.port) c.wire added;
+  kept = added;
 }
 
 -- frames are taken one after the other
-pub takes_both : {P : Type 0} (tally : P → Option Frames) (a b c : Tape P) → Takes tally a b → Takes tally b c
+pub takes_both : {P : Type 0} (tally : P → Frames) (a b c : Tape P) → Takes tally a b → Takes tally b c
     → Takes tally a c
 takes_both tally a b c one two = record {
   more = one.more ++ two.more;
   grown = two.grown ∙ ap (λ xs. xs ++ two.more) one.grown ∙ append_assoc a.taken.items one.more two.more;
-  kept = two.kept ∙ ap (λ list. behind list (map (λ (x : Crossing). x.wire) two.more)) one.kept
-      ∙ behind_both (tally a.port) (map (λ (x : Crossing). x.wire) one.more) (map (λ (x : Crossing). x.wire) two.more)
-      ∙ ap (behind (tally a.port)) (sym (map-append (λ (x : Crossing). x.wire) one.more two.more));
+  kept = two.kept ∙ ap (λ list. list ++ map (λ (x : Crossing). x.wire) two.more) one.kept
+      ∙ append_assoc (tally a.port) (map (λ (x : Crossing). x.wire) one.more) (map (λ (x : Crossing). x.wire) two.more)
+      ∙ ap (λ list. tally a.port ++ list) (sym (map-append (λ (x : Crossing). x.wire) one.more two.more));
 }
 
 -- what is taken after nothing was
-pub takes_after : {P : Type 0} (tally : P → Option Frames) (a b c : Tape P) → b.port ≡ a.port → b.taken ≡ a.taken
+pub takes_after : {P : Type 0} (tally : P → Frames) (a b c : Tape P) → b.port ≡ a.port → b.taken ≡ a.taken
     → Takes tally b c → Takes tally a c
 takes_after tally a b c port taken two =
     takes_both tally a b c (took_none tally a b (ap (λ t. t.items) taken) (ap tally port)) two

@@ -1,5 +1,5 @@
 -- The frames that crossed a link, by their direction.
-use Rattle.std.specs.Prelude.{Bool, true, false, not, List, [], ◌++◌, map, Option, Some, None}
+use Rattle.std.specs.Prelude.{Bool, true, false, not, List, [], map, Option, Some, None}
 use Rattle.std.specs.List.{filter}
 use Rattle.rtrb.specs.Ring.{received, IsPair}
 use Rattle.rtrb.specs.declared.consumer.Consumer.{Consumer}
@@ -25,8 +25,3 @@ over (Some from) = received from
 abbrev pub IsPairOf : {T A P : Type 0} → Option (Consumer T A P) → Producer T A P → Type 0
 IsPairOf None to = Unit {0}
 IsPairOf (Some from) to = IsPair to from
-
--- a list that is kept, with these frames after it
-abbrev pub behind : Option Frames → Frames → Option Frames
-behind (Some list) frames = Some (list ++ frames)
-behind None frames = None

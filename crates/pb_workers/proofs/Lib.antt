@@ -2,3 +2,4 @@ pub mod UsedPorts
 pub mod ReceiveLemmas
 pub mod RoomLemmas
 pub mod Recorded
+pub mod PortLemmas

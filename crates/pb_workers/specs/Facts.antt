@@ -1,15 +1,17 @@
 -- What the workers of customer ports keep is a fact: it holds in one way.
-use mathlib.Core.Path.{ap, ◌∙◌}
-use Rattle.std.specs.Prelude.{ℕ, Option, Some, None, List, []}
-use Rattle.std.specs.Coded.{Coded, Coded-set, coded_list, coded_option, coded_ℕ, Unit-prop}
-use Rattle.pb_lan.specs.declared.step.Step.{Step}
+use mathlib.Core.HLevel.{is_prop→PathP}
+use mathlib.Core.Path.{sym, ◌∙◌}
+use Rattle.std.proofs.lemmas.List.{append_cancel_right}
+use Rattle.std.specs.Prelude.{◌≡◌, ◌≤◌, ℕ, Bool, false, Option, Some, None, List, ◌++◌, [], All, length}
+use Rattle.std.specs.Coded.{Coded, Coded-set, coded_list, coded_option, coded_ℕ, Unit-prop, Π_prop, →_prop, le_prop}
 use Rattle.pb_lan.specs.Counts.{entered, left}
-use Rattle.pb_workers.specs.Ports.{Frames, IsUsedUp, IsEnded, KeepsPort, in_front, behind}
+use Rattle.pb_lan.specs.declared.step.Step.{Step}
+use Rattle.pb_workers.specs.Ports.{Frames, IsUsedUp, IsEnded, HasSent, PortFrames, KeepsPort, in_front, given_up}
 use Rattle.pb_workers.specs.declared.access.Last.{Last}
 use Rattle.pb_workers.specs.declared.access.Last.TheVariants.{More, End, Fault}
 
 -- frames are stored as lists of octets
-abbrev pub coded_frames : Coded Frames
+abbrev coded_frames : Coded Frames
 coded_frames = coded_list (coded_list coded_ℕ)
 
 pub IsUsedUp-prop : (script : Option Frames) → IsProp (IsUsedUp script)
@@ -21,12 +23,29 @@ IsEnded-prop More script = Unit-prop
 IsEnded-prop End script = IsUsedUp-prop script
 IsEnded-prop (Fault fault) script = Unit-prop
 
-pub KeepsPort-prop : {P : Type 0} (script tally : P → Option Frames) (was port : P) (steps : List Step) (last : Last)
-    → IsProp (KeepsPort script tally was port steps last)
-KeepsPort-prop script tally was port steps last one other =
-    let first = Coded-set (coded_option coded_frames) (script was) (in_front (entered steps) (script port)) in
-    let second = Coded-set (coded_option coded_frames) (tally port) (behind (tally was) (left steps)) in
-    let third = IsEnded-prop last (script port) in
-    ap (λ given. (given, one.1, one.2)) (first one.0 other.0)
-    ∙ ap (λ taken. (other.0, taken, one.2)) (second one.1 other.1)
-    ∙ ap (λ ended. (other.0, other.1, ended)) (third one.2 other.2)
+-- the frames that were sent are those before the ones that wait
+pub HasSent-prop : (all waiting : Frames) → IsProp (HasSent all waiting)
+HasSent-prop all waiting one other =
+    let same = append_cancel_right one.sent other.sent waiting (one.both ∙ sym other.both) in
+    λ i. record {
+      sent = same i;
+      both = is_prop→PathP (λ k. same k ++ waiting ≡ all) (λ k. Coded-set coded_frames (same k ++ waiting) all) one.both
+          other.both i;
+    }
+
+pub AreLong-prop : (is_over : Bool) (frames : Frames) → IsProp (is_over ≡ false → All (λ f. 65536 ≤ length f) frames)
+AreLong-prop is_over frames = →_prop (Π_prop (λ k. Π_prop (λ d. →_prop le_prop)))
+
+pub KeepsPort-prop : (was port : PortFrames) (steps : List Step) (last : Last) → IsProp (KeepsPort was port steps last)
+KeepsPort-prop was port steps last one other =
+    let is_given = Coded-set coded_frames port.given (was.given ++ entered steps) in
+    let is_taken = Coded-set coded_frames port.tally (was.tally ++ left steps) in
+    let is_read = Coded-set (coded_option coded_frames) was.script (in_front (entered steps) port.script) in
+    λ i. record {
+      given = is_given one.given other.given i;
+      tally = is_taken one.tally other.tally i;
+      script = is_read one.script other.script i;
+      used_up = IsEnded-prop last port.script one.used_up other.used_up i;
+      unsent = HasSent-prop (was.waiting ++ left steps) port.waiting one.unsent other.unsent i;
+      gone = AreLong-prop port.is_over (given_up steps) one.gone other.gone i;
+    }

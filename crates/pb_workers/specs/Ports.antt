@@ -1,7 +1,10 @@
 -- What the steps of a customer port imply for the port outside.
-use Rattle.std.specs.Prelude.{◌≡◌, ℕ, ⊤, Option, Some, None, List, ◌++◌, []}
+use Rattle.std.specs.Prelude.{◌≡◌, ◌≤◌, ℕ, ⊤, Bool, false, ◌||◌, Option, Some, None, List, ◌++◌, [], All, map, length}
+use Rattle.std.specs.List.{filter}
 use Rattle.pb_lan.specs.Counts.{entered, left}
+use Rattle.pb_lan.specs.PortLists.{all_delivered}
 use Rattle.pb_lan.specs.declared.step.Step.{Step}
+use Rattle.pb_port.specs.declared.port.Port.{Ghosts}
 pub use Rattle.pb_port.specs.Ports.{Frames}
 use Rattle.pb_workers.specs.declared.access.Last.{Last}
 use Rattle.pb_workers.specs.declared.access.Last.TheVariants.{More, End, Fault}
@@ -10,10 +13,6 @@ use Rattle.pb_workers.specs.declared.access.Last.TheVariants.{More, End, Fault}
 abbrev pub in_front : Frames → Option Frames → Option Frames
 in_front frames (Some list) = Some (frames ++ list)
 in_front frames None = None
-
-abbrev pub behind : Option Frames → Frames → Option Frames
-behind (Some list) frames = Some (list ++ frames)
-behind None frames = None
 
 -- if a script is kept, nothing of it remains
 abbrev pub IsUsedUp : Option Frames → Type 0
@@ -26,7 +25,39 @@ IsEnded More script = ⊤
 IsEnded End script = IsUsedUp script
 IsEnded (Fault fault) script = ⊤
 
--- what the port gave to this worker is what entered, and what it took from the worker is what left
-abbrev pub KeepsPort : {P : Type 0} → (P → Option Frames) → (P → Option Frames) → P → P → List Step → Last → Type 0
-KeepsPort script tally was port steps last =
-    (script was ≡ in_front (entered steps) (script port)) × (tally port ≡ behind (tally was) (left steps)) × IsEnded last (script port)
+-- the frames that the customer port gave up because the port outside takes no more of them
+abbrev pub given_up : List Step → Frames
+given_up steps = map (λ d. d.item.wire) (filter (λ d. d.gone) (all_delivered steps))
+
+-- of all these frames the first were sent, and the others wait
+pub record HasSent (all waiting : Frames) : Type 0 where
+  pub sent : Frames
+  pub both : sent ++ waiting ≡ all
+
+-- what contracts see of a port outside: its lists, and whether it was shelved or a write of it failed
+pub record PortFrames : Type 0 where
+  pub script : Option Frames
+  pub given : Frames
+  pub tally : Frames
+  pub waiting : Frames
+  pub is_over : Bool
+
+abbrev pub port_frames : {P : Type 0} → Ghosts P → P → PortFrames
+port_frames port p = record {
+  script = port.script p;
+  given = port.given p;
+  tally = port.tally p;
+  waiting = port.waiting p;
+  is_over = port.is_shelved p || port.is_failed p;
+}
+
+-- what the port gave to this worker is what entered, and what it took from the worker is what left. What it sent,
+-- followed by what waits in it, is what waited before, followed by what left. Unless the port is over, only frames that
+-- no port takes were given up
+pub record KeepsPort (was port : PortFrames) (steps : List Step) (last : Last) : Type 0 where
+  pub given : port.given ≡ was.given ++ entered steps
+  pub tally : port.tally ≡ was.tally ++ left steps
+  pub script : was.script ≡ in_front (entered steps) port.script
+  pub used_up : IsEnded last port.script
+  pub unsent : HasSent (was.waiting ++ left steps) port.waiting
+  pub gone : port.is_over ≡ false → All (λ f. 65536 ≤ length f) (given_up steps)

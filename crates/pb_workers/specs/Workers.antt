@@ -5,7 +5,8 @@ use Rattle.pb_ring.specs.Rings.{shown_at}
 use Rattle.pb_ring.specs.declared.ends.Wiring.{Ghosts}
 use Rattle.pb_ring.specs.declared.sides.Inlets.{Inlets}
 use Rattle.pb_ring.specs.declared.sides.Outlets.{Outlets}
-use Rattle.pb_workers.specs.Ports.{Frames, KeepsPort}
+use Rattle.pb_port.specs.declared.port.Port.{Ghosts as PortGhosts}
+use Rattle.pb_workers.specs.Ports.{KeepsPort, port_frames}
 use Rattle.pb_workers.specs.declared.access.Access.{Access}
 use Rattle.pb_workers.specs.declared.bridge.BridgeWorker.{BridgeWorker}
 use Rattle.pb_workers.specs.declared.customer.CustomerWorker.{CustomerWorker}
@@ -41,9 +42,9 @@ pub record IsSameCustomer {X P : Type 0} {W : Ghosts X} (old new : CustomerWorke
   pub drain : new.access.drain.number ≡ old.access.drain.number
 
 -- what the worker's port gave to the worker is what entered, and what it took from the worker is what left
-abbrev pub IsPortKept : {X P : Type 0} {W : Ghosts X} → (P → Option Frames) → (P → Option Frames) → CustomerWorker X P W → Type 0
-IsPortKept script tally worker =
-    KeepsPort script tally worker.was.value worker.port worker.access.place.steps worker.access.book.last
+abbrev pub IsPortKept : {X P : Type 0} {W : Ghosts X} → PortGhosts P → CustomerWorker X P W → Type 0
+IsPortKept port worker =
+    KeepsPort (port_frames port worker.was.value) (port_frames port worker.port) worker.access.place.steps worker.access.book.last
 
 -- a lane's worker keeps its number, the numbers of its rings, and the losses of its lane
 pub record IsSameLane {X P : Type 0} {W : Ghosts X} (old new : LaneWorker X P W) : Type 0 where

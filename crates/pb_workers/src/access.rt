@@ -72,6 +72,7 @@ fn reserve(place: &mut CustomerPlace, limit: usize) -> Result<(), Refusal>
 }
 
 impl<W: Wiring> Access<W> {
+    ghost use Rattle.pb_workers.specs.Ports.{given_up};
     ghost use Rattle.pb_workers.specs.Workers.{IsSameAccess};
 
     /// Returns the access of a customer port that has taken no step, over rings that nothing has passed. It may take
@@ -129,6 +130,7 @@ impl<W: Wiring> Access<W> {
         ensures same { IsSameAccess self.old self.new }
         ensures entered { entered self.new.place.steps ≡ entered self.old.place.steps ++ frame ∷ [] }
         ensures left { left self.new.place.steps ≡ left self.old.place.steps }
+        ensures given_up { given_up self.new.place.steps ≡ given_up self.old.place.steps }
     {
         self.place.poll(frame);
     }
@@ -142,6 +144,7 @@ impl<W: Wiring> Access<W> {
         ensures same { IsSameAccess self.old self.new }
         ensures entered { entered self.new.place.steps ≡ entered self.old.place.steps }
         ensures left { left self.new.place.steps ≡ left self.old.place.steps }
+        ensures given_up { given_up self.new.place.steps ≡ given_up self.old.place.steps }
     {
         if self.place.is_hand_empty() || !self.feed.has_room() {
             return Ok(false);
@@ -181,6 +184,8 @@ impl<W: Wiring> Access<W> {
         ensures entered { entered self.new.place.steps ≡ entered self.old.place.steps }
         ensures left { (item : _) → self.old.offered ≡ Some item
             → left self.new.place.steps ≡ left self.old.place.steps ++ (if gone then [] else item.wire ∷ []) }
+        ensures given_up { (item : _) → self.old.offered ≡ Some item
+            → given_up self.new.place.steps ≡ given_up self.old.place.steps ++ (if gone then item.wire ∷ [] else []) }
     {
         let Some(item) = self.offered.take() else {
             unreachable!();

@@ -3,6 +3,7 @@
 ghost use Rattle.std.specs.Prelude.{◌≡◌, ◌++◌, [], true, Ok};
 ghost use Rattle.pb_workers.specs.GiftCodes.{customer_gift};
 ghost use Rattle.pb_workers.specs.Facts.{KeepsPort-prop};
+ghost use Rattle.pb_workers.specs.Ports.{port_frames};
 ghost use Rattle.pb_workers.specs.Workers.{IsPortKept, IsSameCustomer};
 
 use crate::access::{Access, Last};
@@ -57,8 +58,8 @@ impl<W: Wiring, P: Port> CustomerWorker<W, P> {
     ///
     /// `Memory` if an allocation failed, `Limit` if the place has taken as many steps as it may.
     fn poll(&mut self) -> Taken
-        requires { IsPortKept P.script P.tally self.old }
-        ensures port { IsPortKept P.script P.tally self.new }
+        requires { IsPortKept P.Port self.old }
+        ensures port { IsPortKept P.Port self.new }
         ensures same { IsSameCustomer self.old self.new }
     {
         if !self.access.asks()? {
@@ -67,14 +68,19 @@ impl<W: Wiring, P: Port> CustomerWorker<W, P> {
         match self.port.poll() {
             Polled::Frame(frame) => {
                 self.access.take_in(frame);
-                return Ok(true);
+                Ok(true)
             }
-            Polled::Nothing => {}
-            Polled::End => self.access.book.last = Last::End,
-            Polled::Fault(PortFault::Memory) => return Err(Refusal::Memory),
-            Polled::Fault(fault) => self.access.book.last = Last::Fault(fault),
+            Polled::Nothing => Ok(false),
+            Polled::End => {
+                self.access.book.last = Last::End;
+                Ok(false)
+            }
+            Polled::Fault(PortFault::Memory) => Err(Refusal::Memory),
+            Polled::Fault(fault) => {
+                self.access.book.last = Last::Fault(fault);
+                Ok(false)
+            }
         }
-        Ok(false)
     }
 
     /// Offers the port outside the oldest item that waits for it. Returns whether the item left or the port is gone.
@@ -83,8 +89,8 @@ impl<W: Wiring, P: Port> CustomerWorker<W, P> {
     ///
     /// `Memory` if an allocation failed, `Limit` if the place has taken as many steps as it may.
     fn deliver(&mut self) -> Taken
-        requires { IsPortKept P.script P.tally self.old }
-        ensures port { IsPortKept P.script P.tally self.new }
+        requires { IsPortKept P.Port self.old }
+        ensures port { IsPortKept P.Port self.new }
         ensures same { IsSameCustomer self.old self.new }
     {
         if !self.access.fetch()? {
@@ -116,14 +122,27 @@ impl<W: Wiring, P: Port> CustomerWorker<W, P> {
         }
     }
 
+    /// Feeds the frame in hand to the bridge, if there is one and the ring is not full. Returns whether it did.
+    ///
+    /// # Errors
+    ///
+    /// `Memory` if an allocation failed, `Limit` if the place has taken as many steps as it may.
+    fn feed(&mut self) -> Taken
+        requires { IsPortKept P.Port self.old }
+        ensures port { IsPortKept P.Port self.new }
+        ensures same { IsSameCustomer self.old self.new }
+    {
+        self.access.hand_on()
+    }
+
     /// Lets the port write what waits in it. Returns whether frames left.
     ///
     /// # Errors
     ///
     /// `Memory` if an allocation failed.
     fn pump(&mut self, now: u32) -> Taken
-        requires { IsPortKept P.script P.tally self.old }
-        ensures port { IsPortKept P.script P.tally self.new }
+        requires { IsPortKept P.Port self.old }
+        ensures port { IsPortKept P.Port self.new }
         ensures was { self.new.was ≡ self.old.was }
         ensures access { self.new.access ≡ self.old.access }
     {
@@ -155,15 +174,15 @@ impl<W: Wiring, P: Port> CustomerWorker<W, P> {
 
     /// Takes the first step that is due: delivers, feeds, or polls if frames may enter.
     fn step(&mut self, may_enter: bool) -> Turn
-        requires { IsPortKept P.script P.tally self.old }
-        ensures port { IsPortKept P.script P.tally self.new }
+        requires { IsPortKept P.Port self.old }
+        ensures port { IsPortKept P.Port self.new }
         ensures same { IsSameCustomer self.old self.new }
     {
         let delivered = self.deliver();
         if delivered != Ok(false) {
             return turn(delivered, 0, 1);
         }
-        let fed = self.access.hand_on();
+        let fed = self.feed();
         if fed != Ok(false) {
             return turn(fed, 0, 0);
         }
@@ -196,11 +215,12 @@ impl<W: Wiring, P: Port> Work for CustomerWorker<W, P> {
       };
     } };
 
-    ghost fits = { λ w. IsPortKept P.script P.tally w };
+    ghost fits = { λ w. IsPortKept P.Port w };
 
     ghost coded = { customer_gift P.row.coded };
 
-    ghost is_fact = { λ w. KeepsPort-prop P.script P.tally w.was.value w.port w.access.place.steps w.access.book.last };
+    ghost is_fact = { λ w. KeepsPort-prop (port_frames P.Port w.was.value) (port_frames P.Port w.port)
+        w.access.place.steps w.access.book.last };
 
     fn place(&self) -> Place {
         Place::Customer(self.access.book.number)

@@ -5,6 +5,7 @@ ghost use Rattle.pb_port.specs.declared.answers.Ending.TheVariants.{End as endin
 
 use super::activity::PortActivity;
 use bytes::Bytes;
+use pb_lan::Past;
 use pb_port::{MemoryPort, Offered, Polled, Port, PortFault, Pumped, Shelf};
 use std::alloc::Global;
 use std::collections::VecDeque;
@@ -37,6 +38,7 @@ pub(super) enum Habit {
 #[derive(Drop)]
 pub(super) struct Guest {
     script: VecDeque<Bytes>,
+    given: Past<Bytes>,
     lan: MemoryPort,
     habit: Habit,
     activity: Arc<PortActivity, Global>,
@@ -59,6 +61,7 @@ impl Guest {
     ) -> Guest {
         Guest {
             script,
+            given: Past::new(),
             lan: MemoryPort::new(alloc, 4_096, VecDeque::new(alloc)),
             habit,
             activity,
@@ -74,7 +77,11 @@ impl Guest {
 impl Port for Guest {
     ghost script = { λ p. None };
 
-    ghost tally = { λ p. Some (p.lan.sent.items ++ p.lan.unsent.items) };
+    ghost given = { λ p. p.given.items };
+
+    ghost tally = { λ p. p.lan.sent.items ++ p.lan.unsent.items };
+
+    ghost keeps_sent = { λ p. true };
 
     ghost waiting = { λ p. p.lan.unsent.items };
 
@@ -103,7 +110,10 @@ impl Port for Guest {
             _ => {}
         }
         match self.script.pop_front() {
-            Some(frame) => Polled::Frame(frame),
+            Some(frame) => {
+                self.given.note(&frame);
+                Polled::Frame(frame)
+            }
             None if matches!(self.habit, Habit::Waits(_)) => Polled::Nothing,
             None => {
                 self.is_over = true;

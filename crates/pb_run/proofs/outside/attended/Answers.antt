@@ -2,6 +2,7 @@ use Rattle.std.proofs.Common.{◌≡◌, [], map, sym, ap, ◌∙◌, rules}
 use Rattle.std.proofs.lemmas.List.Elements.{All-head, All-rest, All-same}
 use Rattle.pb_run.specs.Gifts.{given_access}
 use Rattle.pb_workers.specs.declared.gift.AccessGift.{AccessGift}
+use Rattle.pb_workers.specs.Ports.{port_frames}
 use Rattle.pb_workers.specs.Workers.{IsPortKept}
 use Rattle.pb_workers.specs.declared.customer.CustomerWorker.{CustomerWorker}
 use Rattle.pb_workers.specs.declared.access.Access.{Access}
@@ -29,9 +30,9 @@ loop-port-preserved g c =
       gifts = moved_on _ c.loop-port.workers.items _ c.new.result _ _ _ (gift c.in-Some-pop_front.access) i.gifts
           grown (ap (map gift) taken) (ap gift made.access);
       fresh = All-rest Fresh c.in-Some-pop_front.access _ _ taken i.fresh;
-      keeps = all_more (λ (w : C). IsPortKept g.P.Port.script g.P.Port.tally w) c.new.result
+      keeps = all_more (λ (w : C). IsPortKept g.P.Port w) c.new.result
           c.loop-port.workers.items _ grown i.keeps
-          (keeps_fresh g.P.Port.script g.P.Port.tally c.new.result.was.value c.new.result.port
+          (keeps_fresh (port_frames g.P.Port) c.new.result.was.value c.new.result.port
           c.new.result.access.place.steps c.new.result.access.book.last (made.port.1 ∙ sym made.port.0)
           (ap (λ (d : D). d.place.steps) made.access ∙ fresh.0) (ap (λ (d : D). d.book.last) made.access ∙ fresh.1));
       count = search rules;

@@ -15,7 +15,7 @@ invariant-loop-port g l = record {
   gifts : map (λ w. given_access w.access) l.workers.items ++ map given_access l.accesses.items ≡ map given_access
       l.initial.accesses.items;
   fresh : All (λ d. (d.place.steps ≡ []) × (d.book.last ≡ More)) l.accesses.items;
-  keeps : All (IsPortKept g.P.Port.script g.P.Port.tally) l.workers.items;
+  keeps : All (IsPortKept g.P.Port) l.workers.items;
   count : deque_len l.accesses ≡ into_iter_len l.port-iterator;
   room : vec_len l.workers + into_iter_len l.port-iterator ≤ vec_capacity l.workers;
 }

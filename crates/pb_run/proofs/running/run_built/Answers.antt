@@ -29,7 +29,7 @@ pub returns-clause-run : goal.returns-clause-run
 returns-clause-run g c =
     let told = c.told_of-counts.ensures in record {
       steps = told.steps;
-      ports = run_kept _ _ _ _ _ _ _ _ _ _ _ _ _ _ _ c.run_all-places.ensures.customers.0
+      ports = run_kept _ _ _ _ _ _ _ _ _ _ _ _ _ _ c.run_all-places.ensures.customers.0
           c.attended-customers.ensures.ports c.apart-ports.ensures.ports
           c.apart-ports.ensures.accesses told.customers c.apart-ports.ensures.lasts (λ t. t.was.value) (λ w. refl)
           c.run_all-places.ensures.customers.1;

@@ -6,5 +6,5 @@ abbrev pub invariant-loop : goal.invariant-loop
 invariant-loop g l = record {
   was : l.self.was ≡ l.initial.self.was;
   access : l.self.access ≡ l.initial.self.access;
-  port : IsPortKept g.P.Port.script g.P.Port.tally l.self;
+  port : IsPortKept g.P.Port l.self;
 }
