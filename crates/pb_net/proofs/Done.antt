@@ -54,24 +54,24 @@ use Rattle.pb_net.proofs.OneMore.{steps_of-map, one_more-map, map-set_kept}
 use Rattle.pb_net.proofs.Placing.{placed_bridge, placed_lane, placed_customer}
 use Rattle.pb_net.proofs.PortMoves.{after_poll, after_feed, after_deliver}
 
-abbrev pub net_with : Plan → Record → NetView
-net_with plan rec = record { plan = plan; rec = rec }
+abbrev pub net_with : Inside → Record → NetView
+net_with s rec = record { plan = s.plan; rec = rec; is_kept = s.is_kept }
 
 -- `IsAnswer` of a fault after which nothing changed
 answers_err : {net : NetView} {rec : Record} {result : Result Did NetFault} (s : Inside) (event : Event)
     (told : NetFault)
     → shown s ≡ net → rec ≡ rec_in s → (fault : NetFault) × (result ≡ Err fault) × (fault ≡ told)
-    → (net_with s.plan rec ≡ shown s → IsAnswer (shown s) event (Err told) (net_with s.plan rec))
-    → IsAnswer net event result (net_with s.plan rec)
+    → (net_with s rec ≡ shown s → IsAnswer (shown s) event (Err told) (net_with s rec))
+    → IsAnswer net event result (net_with s rec)
 answers_err {net} {rec} {result} s event told view same met answer =
-    subst (λ (v : NetView). IsAnswer v event result (net_with s.plan rec)) view
-    (subst (λ (x : Result Did NetFault). IsAnswer (shown s) event x (net_with s.plan rec))
-    (sym (met.1 ∙ ap (λ z. Err z) met.2)) (answer (ap (net_with s.plan) same)))
+    subst (λ (v : NetView). IsAnswer v event result (net_with s rec)) view
+    (subst (λ (x : Result Did NetFault). IsAnswer (shown s) event x (net_with s rec))
+    (sym (met.1 ∙ ap (λ z. Err z) met.2)) (answer (ap (net_with s) same)))
 
 -- `IsAnswer` of an event that was due when an allocation failed
 pub answers_memory : {net : NetView} {rec : Record} {result : Result Did NetFault} (s : Inside) (event : Event)
     → shown s ≡ net → IsDue (shown s) event → rec ≡ rec_in s
-    → (fault : NetFault) × (result ≡ Err fault) × (fault ≡ Memory) → IsAnswer net event result (net_with s.plan rec)
+    → (fault : NetFault) × (result ≡ Err fault) × (fault ≡ Memory) → IsAnswer net event result (net_with s rec)
 answers_memory s event view due same met = answers_err s event Memory view same met (λ e. (due, e))
 
 -- `IsAnswer` of a bridge's fault: the step limit if its list is full, else out of memory
@@ -81,7 +81,7 @@ pub answers_fault : {net : NetView} {rec : Record} {result : Result Did NetFault
     → is_idle s.plan (rec_in s) event ≡ false
     → is_at_limit s.plan (rec_in s) event ≡ (length (steps_of (rec_in s).bridges bridge) == s.plan.steps)
     → (IsErrOf {T = T} (Err fault) bridge_limit ↔ (length b.steps ≡ b.plan.steps))
-    → (met : NetFault) × (result ≡ Err met) × (met ≡ fault_of fault) → IsAnswer net event result (net_with s.plan rec)
+    → (met : NetFault) × (result ≡ Err met) × (met ≡ fault_of fault) → IsAnswer net event result (net_with s rec)
 answers_fault {s = s} event bridge_limit at view same named busy limit_so limit met =
     answers_err s event StepLimit view same met
     (λ e. (named, busy, limit_so ∙ limit_is at ∙ eq-eqb _ _ (limit.0 refl), e))
@@ -91,10 +91,10 @@ answers_fault {s = s} event bridge_memory at view same named busy limit_so limit
 -- `IsAnswer` of an event that was performed
 pub answers_done : {net : NetView} {rec : Record} (s : Inside) (event : Event)
     → shown s ≡ net → IsDue (shown s) event → HasDone (rec_in s) event rec
-    → IsAnswer net event (Ok (Done (place_of event))) (net_with s.plan rec)
+    → IsAnswer net event (Ok (Done (place_of event))) (net_with s rec)
 answers_done {rec = rec} s event view due done =
-    subst (λ (v : NetView). IsAnswer v event (Ok (Done (place_of event))) (net_with s.plan rec)) view
-    (due, refl, refl, done)
+    subst (λ (v : NetView). IsAnswer v event (Ok (Done (place_of event))) (net_with s rec)) view
+    (due, refl, refl, done, refl)
 
 -- a length that is not zero is positive
 pub some_there : (n : ℕ) → (n == 0) ≡ false → 0 < n

@@ -39,14 +39,14 @@ abbrev pub rec_in : Inside → Record
 rec_in s = record_of s.bridges.items s.lanes.items s.customers.items
 
 abbrev pub shown : Inside → NetView
-shown s = record { plan = s.plan; rec = rec_in s }
+shown s = record { plan = s.plan; rec = rec_in s; is_kept = s.is_kept }
 
 -- the invariant, with these places and queues
 abbrev pub KeepsAs : Inside → List BridgeView → List LaneView → List PlaceView → List (List Item) → List (List Item)
     → Type 0
 KeepsAs s bridges lanes customers ins outs =
     IsSoundPlan s.plan
-    × ArePlaced s.plan bridges lanes customers
+    × ArePlaced s.plan s.is_kept bridges lanes customers
     × IsKept s.plan (record_of bridges lanes customers) ins outs
     × AreTables s.plan s.slots
     × HasNumbers s.plan s.limit s.ring

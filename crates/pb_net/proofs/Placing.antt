@@ -1,5 +1,5 @@
 -- The places of a network, with one of them changed.
-use Rattle.std.proofs.Common.{◌≡◌, ℕ, zero, suc, ◌+◌, inl, inr, true, List, [], ◌∷◌, Some, slice_get, sym, ap, subst}
+use Rattle.std.proofs.Common.{◌≡◌, ℕ, zero, suc, ◌+◌, inl, inr, List, [], ◌∷◌, Some, slice_get, sym, ap, subst}
 use Rattle.std.proofs.Common.{◌∙◌, length-set}
 use Rattle.std.specs.List.{AllByRecursion}
 use Rattle.std.proofs.Math.ListN.{set}
@@ -37,7 +37,7 @@ all_set P (x ∷ xs) (suc r) old new here all changed = (all.0, all_set P xs r o
 -- the places are those of the plan after one has changed, if it keeps what the plan says of it
 pub placed_bridge : (s : Inside) (r : ℕ) (old new : BridgeView) → Keeps s → slice_get s.bridges.items r ≡ Some old
     → new.plan ≡ old.plan → new.number ≡ old.number → new.is_kept ≡ old.is_kept
-    → ArePlaced s.plan (set s.bridges.items r new) s.lanes.items s.customers.items
+    → ArePlaced s.plan s.is_kept (set s.bridges.items r new) s.lanes.items s.customers.items
 placed_bridge s r old new keeps here of_plan number is_kept =
     let p = keeps.1 in
     record {
@@ -47,7 +47,8 @@ placed_bridge s r old new keeps here of_plan number is_kept =
       planned = each_set (λ _ b. b.plan ≡ s.plan) s.bridges.items r old new here p.planned (λ k. of_plan ∙ k);
       bridge_numbers = each_set (λ k b. b.number ≡ k + 1) s.bridges.items r old new here p.bridge_numbers
           (λ k. number ∙ k);
-      kept_bridges = all_set (λ b. b.is_kept ≡ true) s.bridges.items r old new here p.kept_bridges (λ k. is_kept ∙ k);
+      kept_bridges = all_set (λ b. b.is_kept ≡ s.is_kept) s.bridges.items r old new here p.kept_bridges
+          (λ k. is_kept ∙ k);
       kept_lanes = p.kept_lanes;
       kept_customers = p.kept_customers;
       lane_losses = p.lane_losses;
@@ -56,7 +57,7 @@ placed_bridge s r old new keeps here of_plan number is_kept =
 
 pub placed_lane : (s : Inside) (r : ℕ) (old new : LaneView) → Keeps s → slice_get s.lanes.items r ≡ Some old
     → new.losses ≡ old.losses → new.is_kept ≡ old.is_kept
-    → ArePlaced s.plan s.bridges.items (set s.lanes.items r new) s.customers.items
+    → ArePlaced s.plan s.is_kept s.bridges.items (set s.lanes.items r new) s.customers.items
 placed_lane s r old new keeps here losses is_kept =
     let p = keeps.1 in
     record {
@@ -66,7 +67,7 @@ placed_lane s r old new keeps here losses is_kept =
       planned = p.planned;
       bridge_numbers = p.bridge_numbers;
       kept_bridges = p.kept_bridges;
-      kept_lanes = all_set (λ l. l.is_kept ≡ true) s.lanes.items r old new here p.kept_lanes (λ k. is_kept ∙ k);
+      kept_lanes = all_set (λ l. l.is_kept ≡ s.is_kept) s.lanes.items r old new here p.kept_lanes (λ k. is_kept ∙ k);
       kept_customers = p.kept_customers;
       lane_losses = each_set (λ k l. l.losses ≡ losses_of s.plan (k + 1)) s.lanes.items r old new here p.lane_losses
           (λ k. losses ∙ k);
@@ -75,7 +76,7 @@ placed_lane s r old new keeps here losses is_kept =
 
 pub placed_customer : (s : Inside) (r : ℕ) (old new : PlaceView) → Keeps s → slice_get s.customers.items r ≡ Some old
     → new.number ≡ old.number → new.is_kept ≡ old.is_kept
-    → ArePlaced s.plan s.bridges.items s.lanes.items (set s.customers.items r new)
+    → ArePlaced s.plan s.is_kept s.bridges.items s.lanes.items (set s.customers.items r new)
 placed_customer s r old new keeps here number is_kept =
     let q = keeps.1 in
     record {
@@ -86,7 +87,7 @@ placed_customer s r old new keeps here number is_kept =
       bridge_numbers = q.bridge_numbers;
       kept_bridges = q.kept_bridges;
       kept_lanes = q.kept_lanes;
-      kept_customers = all_set (λ p. p.is_kept ≡ true) s.customers.items r old new here q.kept_customers
+      kept_customers = all_set (λ p. p.is_kept ≡ s.is_kept) s.customers.items r old new here q.kept_customers
           (λ k. is_kept ∙ k);
       lane_losses = q.lane_losses;
       customer_numbers = each_set (λ k p. p.number ≡ k + 1) s.customers.items r old new here q.customer_numbers

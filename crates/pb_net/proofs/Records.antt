@@ -147,6 +147,13 @@ known_steps f is_kept xs n count x counted known value all =
     let here = here_is xs (n - 1) x (omega (arith, known.0, known.1, counted)) value in
     (All-at (λ y. is_kept y ≡ true) xs (n - 1) x here all, sym (steps_at_number f xs n x known.0 here))
 
+-- in a network that keeps its steps all places keep theirs
+pub all_kept : {X : Type 0} {net : NetView} (is_kept : X → Bool) (xs : List X) (s : Inside) → shown s ≡ net
+    → net.is_kept ≡ true → AllByRecursion (λ x. is_kept x ≡ s.is_kept) xs
+    → AllByRecursion (λ x. is_kept x ≡ true) xs
+all_kept is_kept xs s view kept all = subst (λ k. AllByRecursion (λ x. is_kept x ≡ k) xs)
+    (ap (λ (v : NetView). v.is_kept) view ∙ kept) all
+
 -- the numbers of a list's items are those from 1 to its length
 pub number_is_named : {X : Type 0} (xs : List X) (n : ℕ)
     → (nat_le 1 n && nat_le n (length xs)) ≡ is_some (numbered xs n)

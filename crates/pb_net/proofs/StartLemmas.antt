@@ -45,19 +45,20 @@ use Rattle.pb_net.proofs.KnownSpots.{items_in, rec_of}
 use Rattle.pb_net.proofs.Lanes.{ab_link, ba_link, ab_odd, ba_even, begins_at-end, ends_at-end}
 use Rattle.pb_net.proofs.SpotLemmas.{slot_of, slot_there}
 
-pub fresh_bridges-more : (plan : Plan) (n : ℕ) (bridges : List BridgeView) (b : BridgeView)
-    → AreFreshBridges plan n bridges → b ≡ fresh_bridge plan (n + 1)
-    → AreFreshBridges plan (n + 1) (bridges ++ b ∷ [])
-fresh_bridges-more plan n bridges b are e = record {
+pub fresh_bridges-more : (plan : Plan) (is_kept : Bool) (n : ℕ) (bridges : List BridgeView) (b : BridgeView)
+    → AreFreshBridges plan is_kept n bridges → b ≡ fresh_bridge plan is_kept (n + 1)
+    → AreFreshBridges plan is_kept (n + 1) (bridges ++ b ∷ [])
+fresh_bridges-more plan is_kept n bridges b are e = record {
   counted = omega (arith, are.counted, length-append bridges (b ∷ []));
-  fresh = each_more (λ r x. x ≡ fresh_bridge plan (r + 1)) bridges b are.fresh (rw are.counted e);
+  fresh = each_more (λ r x. x ≡ fresh_bridge plan is_kept (r + 1)) bridges b are.fresh (rw are.counted e);
 }
 
-pub fresh_customers-more : (n : ℕ) (customers : List PlaceView) (p : PlaceView) → AreFreshCustomers n customers
-    → p ≡ fresh_customer (n + 1) → AreFreshCustomers (n + 1) (customers ++ p ∷ [])
-fresh_customers-more n customers p are e = record {
+pub fresh_customers-more : (is_kept : Bool) (n : ℕ) (customers : List PlaceView) (p : PlaceView)
+    → AreFreshCustomers is_kept n customers
+    → p ≡ fresh_customer is_kept (n + 1) → AreFreshCustomers is_kept (n + 1) (customers ++ p ∷ [])
+fresh_customers-more is_kept n customers p are e = record {
   counted = omega (arith, are.counted, length-append customers (p ∷ []));
-  fresh = each_more (λ r x. x ≡ fresh_customer (r + 1)) customers p are.fresh (rw are.counted e);
+  fresh = each_more (λ r x. x ≡ fresh_customer is_kept (r + 1)) customers p are.fresh (rw are.counted e);
 }
 
 -- a property by index holds of a list extended by two lanes
@@ -82,14 +83,15 @@ lane_losses plan k lane link odd at of_link is =
     ∙ ap (λ (o : Option LinkPlan). unwrap_or (option_map (losses_at lane) o) []) at
     ∙ ap (λ (t : Bool). if t then link.lost_ab else link.lost_ba) is
 
-pub fresh_lanes-more : (plan : Plan) (k : ℕ) (link : LinkPlan) (lanes : List LaneView) (a b : LaneView)
-    → slice_get plan.links k ≡ Some link → AreFreshLanes plan (2 * k) lanes
-    → a ≡ fresh_lane link.lost_ab → b ≡ fresh_lane link.lost_ba
-    → AreFreshLanes plan (2 * (k + 1)) ((lanes ++ a ∷ []) ++ b ∷ [])
-fresh_lanes-more plan k link lanes a b at are is_a is_b =
-    let more = lanes-more (λ n l. l ≡ fresh_lane (losses_of plan n)) lanes k a b are.counted are.fresh
-    (is_a ∙ ap fresh_lane (sym (lane_losses plan k (lane_ab (suc k)) link true at (ab_link k) (ab_odd k))))
-    (is_b ∙ ap fresh_lane (sym (lane_losses plan k (lane_ba (suc k)) link false at (ba_link k) (ba_even k)))) in
+pub fresh_lanes-more : (plan : Plan) (is_kept : Bool) (k : ℕ) (link : LinkPlan) (lanes : List LaneView) (a b : LaneView)
+    → slice_get plan.links k ≡ Some link → AreFreshLanes plan is_kept (2 * k) lanes
+    → a ≡ fresh_lane is_kept link.lost_ab → b ≡ fresh_lane is_kept link.lost_ba
+    → AreFreshLanes plan is_kept (2 * (k + 1)) ((lanes ++ a ∷ []) ++ b ∷ [])
+fresh_lanes-more plan is_kept k link lanes a b at are is_a is_b =
+    let more = lanes-more (λ n l. l ≡ fresh_lane is_kept (losses_of plan n)) lanes k a b are.counted are.fresh
+    (is_a ∙ ap (fresh_lane is_kept) (sym (lane_losses plan k (lane_ab (suc k)) link true at (ab_link k) (ab_odd k))))
+    (is_b ∙ ap (fresh_lane is_kept)
+    (sym (lane_losses plan k (lane_ba (suc k)) link false at (ba_link k) (ba_even k)))) in
     record { counted = more.0; fresh = more.1 }
 
 -- the ends of a link have numbers in range
@@ -192,20 +194,23 @@ all_by_each P [] each = tt
 all_by_each P (x ∷ xs) each = (each 0 x refl, all_by_each P xs (λ r y h. each (suc r) y h))
 
 -- the places of a new network are those of the plan
-pub fresh_placed : (plan : Plan) (bridges : List BridgeView) (lanes : List LaneView) (customers : List PlaceView)
-    → AreFreshBridges plan (length plan.bridges) bridges → AreFreshLanes plan (2 * length plan.links) lanes
-    → AreFreshCustomers (length plan.customers) customers
-    → ArePlaced plan bridges lanes customers
-fresh_placed plan bridges lanes customers bs ls cs = record {
+pub fresh_placed : (plan : Plan) (is_kept : Bool) (bridges : List BridgeView) (lanes : List LaneView)
+    (customers : List PlaceView)
+    → AreFreshBridges plan is_kept (length plan.bridges) bridges
+    → AreFreshLanes plan is_kept (2 * length plan.links) lanes
+    → AreFreshCustomers is_kept (length plan.customers) customers
+    → ArePlaced plan is_kept bridges lanes customers
+fresh_placed plan is_kept bridges lanes customers bs ls cs = record {
   bridge_count = bs.counted;
   lane_count = ls.counted;
   customer_count = cs.counted;
   planned = λ r b h. ap (λ (x : BridgeView). x.plan) (bs.fresh r b h);
   bridge_numbers = λ r b h. ap (λ (x : BridgeView). x.number) (bs.fresh r b h);
-  kept_bridges = all_by_each (λ b. b.is_kept ≡ true) bridges
+  kept_bridges = all_by_each (λ b. b.is_kept ≡ is_kept) bridges
       (λ r b h. ap (λ (x : BridgeView). x.is_kept) (bs.fresh r b h));
-  kept_lanes = all_by_each (λ l. l.is_kept ≡ true) lanes (λ r l h. ap (λ (x : LaneView). x.is_kept) (ls.fresh r l h));
-  kept_customers = all_by_each (λ p. p.is_kept ≡ true) customers
+  kept_lanes = all_by_each (λ l. l.is_kept ≡ is_kept) lanes
+      (λ r l h. ap (λ (x : LaneView). x.is_kept) (ls.fresh r l h));
+  kept_customers = all_by_each (λ p. p.is_kept ≡ is_kept) customers
       (λ r p h. ap (λ (x : PlaceView). x.is_kept) (cs.fresh r p h));
   lane_losses = λ r l h. ap (λ (x : LaneView). x.losses) (ls.fresh r l h);
   customer_numbers = λ r p h. ap (λ (x : PlaceView). x.number) (cs.fresh r p h);
@@ -231,13 +236,15 @@ no_fetched plan rec b q customers lanes = by (port_at plan b q)
     by Unused = refl
 
 -- the invariant of a new network: no steps, and empty queues
-pub fresh_kept : (plan : Plan) (bridges : List BridgeView) (lanes : List LaneView) (customers : List PlaceView)
+pub fresh_kept : (plan : Plan) (is_kept : Bool) (bridges : List BridgeView) (lanes : List LaneView)
+    (customers : List PlaceView)
     (ins outs : List (VecDeque Item Global))
-    → AreFreshBridges plan (length plan.bridges) bridges → AreFreshLanes plan (2 * length plan.links) lanes
-    → AreFreshCustomers (length plan.customers) customers
+    → AreFreshBridges plan is_kept (length plan.bridges) bridges
+    → AreFreshLanes plan is_kept (2 * length plan.links) lanes
+    → AreFreshCustomers is_kept (length plan.customers) customers
     → AreEmptyBoxes (16 * length plan.bridges) ins → AreEmptyBoxes (16 * length plan.bridges) outs
     → IsKept plan (record_of bridges lanes customers) (map items_in ins) (map items_in outs)
-fresh_kept plan bridges lanes customers ins outs bs ls cs is os =
+fresh_kept plan is_kept bridges lanes customers ins outs bs ls cs is os =
     let rec : Record = record_of bridges lanes customers in
     let bridge : (n : ℕ) → steps_of rec.bridges n ≡ [] = all_unstepped (λ (b : BridgeView). b.steps) bridges
     (λ r b h. ap (λ (x : BridgeView). x.steps) (bs.fresh r b h)) in
@@ -265,11 +272,13 @@ fresh_kept plan bridges lanes customers ins outs bs ls cs is os =
           ∙ ap (transmitted (port_of s)) (sym (bridge (bridge_of s)));
     }
 
-pub fresh_record : (plan : Plan) (bridges : List BridgeView) (lanes : List LaneView) (customers : List PlaceView)
-    → AreFreshBridges plan (length plan.bridges) bridges → AreFreshLanes plan (2 * length plan.links) lanes
-    → AreFreshCustomers (length plan.customers) customers
+pub fresh_record : (plan : Plan) (is_kept : Bool) (bridges : List BridgeView) (lanes : List LaneView)
+    (customers : List PlaceView)
+    → AreFreshBridges plan is_kept (length plan.bridges) bridges
+    → AreFreshLanes plan is_kept (2 * length plan.links) lanes
+    → AreFreshCustomers is_kept (length plan.customers) customers
     → record_of bridges lanes customers ≡ empty_record plan
-fresh_record plan bridges lanes customers bs ls cs =
+fresh_record plan is_kept bridges lanes customers bs ls cs =
     let b = unstepped-map (λ (b : BridgeView). b.steps) bridges plan.bridges bs.counted
     (λ r b h. ap (λ (x : BridgeView). x.steps) (bs.fresh r b h)) in
     let c = unstepped-map (λ (p : PlaceView). p.steps) customers plan.customers cs.counted

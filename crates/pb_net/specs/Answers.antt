@@ -1,5 +1,5 @@
 -- The outcomes of a network's events.
-use Rattle.std.specs.Prelude.{◌≡◌, ℕ, true, false, List, [], ◌∷◌, Some, Ok, Err, take, slice_get}
+use Rattle.std.specs.Prelude.{◌≡◌, ℕ, Bool, true, false, List, [], ◌∷◌, Some, Ok, Err, take, slice_get}
 use Rattle.std.specs.declared.result.Result.{Result}
 use Rattle.pb_lan.specs.Events.{place_of, names_something, is_idle, is_at_limit, HasDone}
 use Rattle.pb_lan.specs.declared.event.Event.{Event}
@@ -10,10 +10,11 @@ use Rattle.pb_net.specs.declared.did.Did.TheVariants.{Idle, Done}
 use Rattle.pb_net.specs.declared.fault.NetFault.{NetFault}
 use Rattle.pb_net.specs.declared.fault.NetFault.TheVariants.{StepLimit, Memory, NoSuch}
 
--- what callers see of a network: its plan, and the record of its steps
+-- what callers see of a network: its plan, the record of its steps, and whether it keeps the steps or only counts them
 pub record NetView : Type 0 where
   pub plan : Plan
   pub rec : Record
+  pub is_kept : Bool
 
 -- the event names a place, there is something to do, and the place's list may take one more step
 pub record IsDue (net : NetView) (event : Event) : Type 0 where
@@ -30,7 +31,7 @@ IsAnswer old event (Err StepLimit) new =
     (names_something old.plan event ≡ true) × (is_idle old.plan old.rec event ≡ false) × (is_at_limit old.plan old.rec event ≡ true) × (new ≡ old)
 IsAnswer old event (Err Memory) new = IsDue old event × (new ≡ old)
 IsAnswer old event (Ok (Done place)) new =
-    IsDue old event × (place ≡ place_of event) × (new.plan ≡ old.plan) × HasDone old.rec event new.rec
+    IsDue old event × (place ≡ place_of event) × (new.plan ≡ old.plan) × HasDone old.rec event new.rec × (new.is_kept ≡ old.is_kept)
 
 -- the events were performed one after the other, none with a fault
 abbrev pub HaveRun : NetView → List Event → NetView → Type 0

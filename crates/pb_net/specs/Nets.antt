@@ -1,5 +1,5 @@
 -- The invariant of a network.
-use Rattle.std.specs.Prelude.{◌≡◌, ℕ, ◌+◌, ◌*◌, true, List, ◌++◌, Some, map, length, slice_get}
+use Rattle.std.specs.Prelude.{◌≡◌, ℕ, ◌+◌, ◌*◌, Bool, List, ◌++◌, Some, map, length, slice_get}
 use Rattle.std.specs.List.{AllByRecursion}
 use Rattle.pb_lan.specs.BridgeLists.{IsLawfulBridge}
 use Rattle.pb_lan.specs.Events.{sent_to, fetched_from}
@@ -24,16 +24,16 @@ record_of bridges lanes customers = record { bridges = map (λ b. b.steps) bridg
 pub record IsSoundPlan (plan : Plan) : Type 0 where
   pub sound : IsSound plan
 
--- the places are those of the plan, in its order
-pub record ArePlaced (plan : Plan) (bridges : List BridgeView) (lanes : List LaneView) (customers : List PlaceView) : Type 0 where
+-- the places are those of the plan, in its order, and all keep their steps or all only count them
+pub record ArePlaced (plan : Plan) (is_kept : Bool) (bridges : List BridgeView) (lanes : List LaneView) (customers : List PlaceView) : Type 0 where
   pub bridge_count : length bridges ≡ length plan.bridges
   pub lane_count : length lanes ≡ 2 * length plan.links
   pub customer_count : length customers ≡ length plan.customers
   pub planned : (r : ℕ) (b : BridgeView) → slice_get bridges r ≡ Some b → b.plan ≡ plan
   pub bridge_numbers : (r : ℕ) (b : BridgeView) → slice_get bridges r ≡ Some b → b.number ≡ r + 1
-  pub kept_bridges : AllByRecursion (λ b. b.is_kept ≡ true) bridges
-  pub kept_lanes : AllByRecursion (λ l. l.is_kept ≡ true) lanes
-  pub kept_customers : AllByRecursion (λ p. p.is_kept ≡ true) customers
+  pub kept_bridges : AllByRecursion (λ b. b.is_kept ≡ is_kept) bridges
+  pub kept_lanes : AllByRecursion (λ l. l.is_kept ≡ is_kept) lanes
+  pub kept_customers : AllByRecursion (λ p. p.is_kept ≡ is_kept) customers
   pub lane_losses : (r : ℕ) (l : LaneView) → slice_get lanes r ≡ Some l → l.losses ≡ losses_of plan (r + 1)
   pub customer_numbers : (r : ℕ) (p : PlaceView) → slice_get customers r ≡ Some p → p.number ≡ r + 1
 

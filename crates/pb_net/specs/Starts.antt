@@ -1,5 +1,5 @@
 -- The parts of a network at its start.
-use Rattle.std.specs.Prelude.{◌≡◌, ℕ, ◌+◌, true, List, [], Some, length, slice_get}
+use Rattle.std.specs.Prelude.{◌≡◌, ℕ, ◌+◌, Bool, List, [], Some, length, slice_get}
 use Rattle.std.specs.declared.collections.VecDeque.{VecDeque}
 use Rattle.std.specs.Global.{Global}
 use Rattle.pb_lan.specs.declared.plan.Plan.{Plan}
@@ -12,27 +12,27 @@ use Rattle.pb_net.specs.declared.slots.LaneSlots.{LaneSlots}
 use Rattle.pb_lan.specs.Ports.{port_at}
 use Rattle.pb_relay.specs.Standing.{BridgeView, at_start}
 
-abbrev pub fresh_bridge : Plan → ℕ → BridgeView
-fresh_bridge plan number = at_start plan number true
+abbrev pub fresh_bridge : Plan → Bool → ℕ → BridgeView
+fresh_bridge plan is_kept number = at_start plan number is_kept
 
-abbrev pub fresh_customer : ℕ → PlaceView
-fresh_customer number = place_at_start number true
+abbrev pub fresh_customer : Bool → ℕ → PlaceView
+fresh_customer is_kept number = place_at_start number is_kept
 
-abbrev pub fresh_lane : List ℕ → LaneView
-fresh_lane losses = lane_at_start losses true
+abbrev pub fresh_lane : Bool → List ℕ → LaneView
+fresh_lane is_kept losses = lane_at_start losses is_kept
 
--- the first bridges of the plan, this many, without steps
-pub record AreFreshBridges (plan : Plan) (count : ℕ) (bridges : List BridgeView) : Type 0 where
+-- the first bridges of the plan, this many, without steps, which keep or count those that they take
+pub record AreFreshBridges (plan : Plan) (is_kept : Bool) (count : ℕ) (bridges : List BridgeView) : Type 0 where
   pub counted : length bridges ≡ count
-  pub fresh : (r : ℕ) (b : BridgeView) → slice_get bridges r ≡ Some b → b ≡ fresh_bridge plan (r + 1)
+  pub fresh : (r : ℕ) (b : BridgeView) → slice_get bridges r ≡ Some b → b ≡ fresh_bridge plan is_kept (r + 1)
 
-pub record AreFreshLanes (plan : Plan) (count : ℕ) (lanes : List LaneView) : Type 0 where
+pub record AreFreshLanes (plan : Plan) (is_kept : Bool) (count : ℕ) (lanes : List LaneView) : Type 0 where
   pub counted : length lanes ≡ count
-  pub fresh : (r : ℕ) (l : LaneView) → slice_get lanes r ≡ Some l → l ≡ fresh_lane (losses_of plan (r + 1))
+  pub fresh : (r : ℕ) (l : LaneView) → slice_get lanes r ≡ Some l → l ≡ fresh_lane is_kept (losses_of plan (r + 1))
 
-pub record AreFreshCustomers (count : ℕ) (customers : List PlaceView) : Type 0 where
+pub record AreFreshCustomers (is_kept : Bool) (count : ℕ) (customers : List PlaceView) : Type 0 where
   pub counted : length customers ≡ count
-  pub fresh : (r : ℕ) (p : PlaceView) → slice_get customers r ≡ Some p → p ≡ fresh_customer (r + 1)
+  pub fresh : (r : ℕ) (p : PlaceView) → slice_get customers r ≡ Some p → p ≡ fresh_customer is_kept (r + 1)
 
 pub record AreEmptyBoxes (count : ℕ) (boxes : List (VecDeque Item Global)) : Type 0 where
   pub counted : length boxes ≡ count

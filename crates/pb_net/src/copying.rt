@@ -32,7 +32,8 @@ fn copied_boxes(boxes: &Vec<VecDeque<Item>>) -> Result<Vec<VecDeque<Item>>, Allo
     boxes.clone()
 }
 
-/// The copy is equal: it has the plan, and each place has taken the same steps.
+/// The copy is equal: it has the plan, each place has taken the same steps, and it keeps them if the network does. If
+/// the network only counts them, the time and the memory of a copy do not grow with them.
 impl Clone for Net {
     ghost is_clone = { λ net copy. copy ≡ net };
 
@@ -51,6 +52,7 @@ impl Clone for Net {
             plan: self.plan.clone()?,
             limit: self.limit,
             ring: self.ring,
+            is_kept: self.is_kept,
             bridges,
             lanes,
             customers,

@@ -16,9 +16,11 @@ mod settled;
 mod slots;
 mod spots;
 mod start;
+mod tallying;
 
 pub use did::Did;
 pub use fault::NetFault;
 pub use net::Net;
 pub use pb_frame::Memory;
+pub use pb_history::Tallies;
 pub use pb_lan::Event;

@@ -19,10 +19,10 @@ use pb_relay::Bridge;
 use std::collections::VecDeque;
 use std::marker::Model;
 
-/// A network of a plan, in one thread. Contracts see its plan and the record of its steps.
+/// A network of a plan, in one thread. Contracts see its plan, the record of its steps, and whether it keeps them.
 ///
-/// The network keeps the steps of its places, the queues between them, and nothing else that does not follow from
-/// these.
+/// The network keeps the steps of its places or only counts them. Besides it keeps the queues between the places, and
+/// nothing else that does not follow from these.
 #[derive(Drop)]
 pub struct Net {
     /// The plan.
@@ -31,6 +31,8 @@ pub struct Net {
     pub(crate) limit: u64,
     /// The greatest number of items in a queue between two places, as the plan says.
     pub(crate) ring: usize,
+    /// Whether the places keep their steps, or only count them.
+    pub(crate) is_kept: bool,
     /// The bridges, in the plan's order.
     pub(crate) bridges: Vec<Bridge>,
     /// The lanes: that from a to b of each link, and the one back.
@@ -56,10 +58,14 @@ impl Model for Net {
 
     ghost Value = { NetView };
 
-    ghost view = { λ n. record { plan = n.plan; rec = record_of n.bridges.items n.lanes.items n.customers.items } };
+    ghost view = { λ n. record {
+      plan = n.plan;
+      rec = record_of n.bridges.items n.lanes.items n.customers.items;
+      is_kept = n.is_kept;
+    } };
 
     ghost invariant = { λ n. IsSoundPlan n.plan
-        × ArePlaced n.plan n.bridges.items n.lanes.items n.customers.items
+        × ArePlaced n.plan n.is_kept n.bridges.items n.lanes.items n.customers.items
         × IsKept n.plan (record_of n.bridges.items n.lanes.items n.customers.items)
         (map (λ q. q.items) n.inboxes.items) (map (λ q. q.items) n.outboxes.items)
         × AreTables n.plan n.slots
@@ -137,9 +143,18 @@ impl Net {
         }
     }
 
-    /// Returns the steps of a place. Those of all places are a lawful record.
+    /// Checks whether the network keeps its steps, as [`steps`](Net::steps) and [`finish`](Net::finish) require. If
+    /// not, it only counts them.
+    pub fn keeps_steps(&self) -> bool
+        ensures { result ≡ self.now.is_kept }
+    {
+        self.is_kept
+    }
+
+    /// Returns the steps of a place of a network that keeps them. Those of all places are a lawful record.
     pub fn steps(&self, place: Place) -> &[Step]
-        requires { has_place self.now.plan place ≡ true }
+        requires has { has_place self.now.plan place ≡ true }
+        requires kept { self.now.is_kept ≡ true }
         ensures steps { result.now ≡ steps_at self.now.rec place }
         ensures lawful { IsLawfulRecord spanning_tree self.now.plan self.now.rec }
     {
@@ -150,7 +165,7 @@ impl Net {
         }
     }
 
-    /// Ends the network, and returns the record of its steps, which is lawful. Allocates nothing.
+    /// Ends a network that keeps its steps, and returns their record, which is lawful. Allocates nothing.
     ///
     /// The guarantee holds whatever the events were. Each departure has the octets of an arrival at a port of the same
     /// service, less a priority S-tag. A frame that was handled under a forest leaves each other port at most once,
@@ -158,6 +173,7 @@ impl Net {
     /// drained, leaves each port of its service in its tree once. No frame is multiplied. Frames of one port and one
     /// priority keep their order.
     pub fn finish(self) -> Record
+        requires { self.is_kept ≡ true }
         ensures record { result ≡ self.rec }
         ensures lawful { IsLawfulRecord spanning_tree self.plan result }
         ensures headline { IsFaithful self.plan result }
@@ -166,6 +182,7 @@ impl Net {
             plan: _,
             limit: _,
             ring: _,
+            is_kept: _,
             bridges,
             lanes,
             customers,

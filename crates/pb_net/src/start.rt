@@ -1,14 +1,15 @@
 //! A network at its start.
 
-ghost use Rattle.std.specs.Prelude.{◌≡◌, ◌<◌, ◌*◌, ◌+◌, ◌-◌, ◌||◌, [], length, IfOk};
+ghost use Rattle.std.specs.Prelude.{◌≡◌, ◌<◌, ◌*◌, ◌+◌, ◌-◌, ◌||◌, [], length, true, false, IfOk};
 ghost use Rattle.std.specs.List.{list_any};
 ghost use Rattle.pb_lan.specs.Events.{empty_record};
-ghost use Rattle.pb_lan.specs.Plans.{IsSound};
+ghost use Rattle.pb_lan.specs.Plans.{IsSound, IsNumber};
 ghost use Rattle.pb_frame.specs.Lists.{Rises};
 ghost use Rattle.pb_lan.specs.Ports.{is_customer_at, is_end_at, port_at};
 ghost use Rattle.pb_net.specs.Lists.{AreEmpty};
 ghost use Rattle.pb_net.specs.Slots.{use_of, AreTables};
-ghost use Rattle.pb_net.specs.Starts.{fresh_lane, AreFreshBridges, AreFreshLanes, AreFreshCustomers, AreEmptyBoxes};
+ghost use Rattle.pb_net.specs.Starts.{fresh_bridge, fresh_lane, fresh_customer, AreFreshBridges, AreFreshLanes};
+ghost use Rattle.pb_net.specs.Starts.{AreFreshCustomers, AreEmptyBoxes};
 ghost use Rattle.pb_net.specs.Starts.{AreUses, AreLaneSlots, AreCustomerSlots};
 
 use crate::lists::Lists;
@@ -21,64 +22,96 @@ use pb_relay::Bridge;
 use std::alloc::Global;
 use std::collections::VecDeque;
 
-/// Returns the bridges of a plan, none of which has taken a step.
+/// Returns the bridge with this number, which has taken no step. It keeps its steps, or only counts them.
 ///
 /// # Errors
 ///
 /// `Memory` if an allocation failed.
-fn fresh_bridges(alloc: Global, plan: &Plan) -> Result<Vec<Bridge>, Memory>
+fn fresh_bridge(alloc: Global, plan: &Plan, is_kept: bool, number: u8) -> Result<Bridge, Memory>
+    requires sound { IsSound plan.now }
+    requires bridge { IsNumber number (length plan.now.bridges) }
+    ensures { IfOk result (λ bridge. bridge ≡ fresh_bridge plan.now is_kept number) }
+{
+    if is_kept {
+        return Bridge::new(alloc, plan, number);
+    }
+    Bridge::counting(alloc, plan, number)
+}
+
+/// Returns the bridges of a plan, none of which has taken a step. They keep their steps, or only count them.
+///
+/// # Errors
+///
+/// `Memory` if an allocation failed.
+fn fresh_bridges(alloc: Global, plan: &Plan, is_kept: bool) -> Result<Vec<Bridge>, Memory>
     requires { IsSound plan.now }
-    ensures { IfOk result (λ bridges. AreFreshBridges plan.now (length plan.now.bridges) bridges.items) }
+    ensures { IfOk result (λ bridges. AreFreshBridges plan.now is_kept (length plan.now.bridges) bridges.items) }
 {
     let mut bridges = Vec::with_capacity(alloc, plan.bridges.len())?;
     for place in 0..plan.bridges.len() {
-        bridges.push(Bridge::new(alloc, plan, place as u8 + 1)?)?;
+        bridges.push(fresh_bridge(alloc, plan, is_kept, place as u8 + 1)?)?;
     }
     Ok(bridges)
 }
 
-/// Returns a lane that loses the items of these numbers, and has taken no step.
+/// Returns a lane that loses the items of these numbers, and has taken no step. It keeps its steps, or only counts
+/// them.
 ///
 /// # Errors
 ///
 /// `Memory` if an allocation failed.
-fn fresh_lane(alloc: Global, losses: &Seq<u64>) -> Result<Lane, Memory>
+fn fresh_lane(alloc: Global, is_kept: bool, losses: &Seq<u64>) -> Result<Lane, Memory>
     requires { Rises losses.now }
-    ensures { IfOk result (λ lane. lane ≡ fresh_lane losses.now) }
+    ensures { IfOk result (λ lane. lane ≡ fresh_lane is_kept losses.now) }
 {
-    Ok(Lane::new(alloc, losses.clone()?))
+    let losses = losses.clone()?;
+    if is_kept {
+        return Ok(Lane::new(alloc, losses));
+    }
+    Ok(Lane::counting(alloc, losses))
 }
 
-/// Returns the lanes of a plan, two to a link, none of which has taken a step.
+/// Returns the lanes of a plan, two to a link, none of which has taken a step. They keep their steps, or only count
+/// them.
 ///
 /// # Errors
 ///
 /// `Memory` if an allocation failed.
-fn fresh_lanes(alloc: Global, plan: &Plan) -> Result<Vec<Lane>, Memory>
+fn fresh_lanes(alloc: Global, plan: &Plan, is_kept: bool) -> Result<Vec<Lane>, Memory>
     requires { IsSound plan.now }
-    ensures { IfOk result (λ lanes. AreFreshLanes plan.now (2 * length plan.now.links) lanes.items) }
+    ensures { IfOk result (λ lanes. AreFreshLanes plan.now is_kept (2 * length plan.now.links) lanes.items) }
 {
     let links = plan.links.as_slice();
     let mut lanes = Vec::with_capacity(alloc, 2 * links.len())?;
     for link in links {
-        lanes.push(fresh_lane(alloc, &link.lost_ab)?)?;
-        lanes.push(fresh_lane(alloc, &link.lost_ba)?)?;
+        lanes.push(fresh_lane(alloc, is_kept, &link.lost_ab)?)?;
+        lanes.push(fresh_lane(alloc, is_kept, &link.lost_ba)?)?;
     }
     Ok(lanes)
 }
 
-/// Returns `count` customer ports, none of which has taken a step.
+/// Returns the customer port of this number, which has taken no step. It keeps its steps, or only counts them.
+fn fresh_customer(alloc: Global, is_kept: bool, number: u8) -> CustomerPlace
+    ensures { result ≡ fresh_customer is_kept number }
+{
+    if is_kept {
+        return CustomerPlace::new(alloc, number);
+    }
+    CustomerPlace::counting(alloc, number)
+}
+
+/// Returns `count` customer ports, none of which has taken a step. They keep their steps, or only count them.
 ///
 /// # Errors
 ///
 /// `Memory` if an allocation failed.
-fn fresh_customers(alloc: Global, count: usize) -> Result<Vec<CustomerPlace>, Memory>
+fn fresh_customers(alloc: Global, is_kept: bool, count: usize) -> Result<Vec<CustomerPlace>, Memory>
     requires { count < 256 }
-    ensures { IfOk result (λ customers. AreFreshCustomers count customers.items) }
+    ensures { IfOk result (λ customers. AreFreshCustomers is_kept count customers.items) }
 {
     let mut customers = Vec::with_capacity(alloc, count)?;
     for place in 0..count {
-        customers.push(CustomerPlace::new(alloc, place as u8 + 1))?;
+        customers.push(fresh_customer(alloc, is_kept, place as u8 + 1))?;
     }
     Ok(customers)
 }
@@ -230,9 +263,35 @@ fn empty_lists(alloc: Global, plan: &Plan) -> Result<Lists, Memory>
     })
 }
 
+/// Returns the network of a plan, in which no place has taken a step. It keeps its steps, or only counts them.
+///
+/// # Errors
+///
+/// `Memory` if an allocation failed.
+fn started(alloc: Global, plan: Plan, is_kept: bool) -> Result<Net, Memory>
+    requires { IsSound plan }
+    ensures { IfOk result (λ net. net ≡ record { plan = plan; rec = empty_record plan; is_kept = is_kept }) }
+{
+    let slots = 16 * plan.bridges.len();
+    Ok(Net {
+        limit: plan.steps,
+        ring: usize::from(plan.ring),
+        is_kept,
+        bridges: fresh_bridges(alloc, &plan, is_kept)?,
+        lanes: fresh_lanes(alloc, &plan, is_kept)?,
+        customers: fresh_customers(alloc, is_kept, plan.customers.len())?,
+        inboxes: empty_boxes(alloc, slots)?,
+        outboxes: empty_boxes(alloc, slots)?,
+        slots: slots_of(alloc, &plan)?,
+        lists: empty_lists(alloc, &plan)?,
+        plan,
+    })
+}
+
 impl Net {
     /// Returns the network of a sound plan (IEEE 802.1Q clause 15), in which no place has taken a step. The plan gives
-    /// the states of the ports, or a spanning tree at each bridge decides them. The network keeps the plan.
+    /// the states of the ports, or a spanning tree at each bridge decides them. The network keeps the plan and all
+    /// steps.
     ///
     /// # Errors
     ///
@@ -253,20 +312,21 @@ impl Net {
     /// ```
     pub fn new(alloc: Global, plan: Plan) -> Result<Net, Memory>
         requires { IsSound plan }
-        ensures { IfOk result (λ net. net ≡ record { plan = plan; rec = empty_record plan }) }
+        ensures { IfOk result (λ net. net ≡ record { plan = plan; rec = empty_record plan; is_kept = true }) }
     {
-        let slots = 16 * plan.bridges.len();
-        Ok(Net {
-            limit: plan.steps,
-            ring: usize::from(plan.ring),
-            bridges: fresh_bridges(alloc, &plan)?,
-            lanes: fresh_lanes(alloc, &plan)?,
-            customers: fresh_customers(alloc, plan.customers.len())?,
-            inboxes: empty_boxes(alloc, slots)?,
-            outboxes: empty_boxes(alloc, slots)?,
-            slots: slots_of(alloc, &plan)?,
-            lists: empty_lists(alloc, &plan)?,
-            plan,
-        })
+        started(alloc, plan, true)
+    }
+
+    /// Returns the network of a sound plan, as [`Net::new`] does. It only counts its steps: its memory does not grow
+    /// with them, and a copy of it has no steps to copy. [`Net::tallies`] returns the counts.
+    ///
+    /// # Errors
+    ///
+    /// `Memory` if an allocation failed. There is no other error.
+    pub fn counting(alloc: Global, plan: Plan) -> Result<Net, Memory>
+        requires { IsSound plan }
+        ensures { IfOk result (λ net. net ≡ record { plan = plan; rec = empty_record plan; is_kept = false }) }
+    {
+        started(alloc, plan, false)
     }
 }

@@ -8,5 +8,6 @@ loop-link-preserved c =
     let at = rw c.as_slice-links.ensures at
     (here_is c.as_slice-links.result.now k c.link-item.result c.loop-link-test.true c.link-item.is) in
     rw (c.in_ok-push-2.ensures.items, c.in_ok-push.ensures.items)
-    (fresh_lanes-more c.args.plan.now k c.link-item.result c.loop-link.lanes.items c.in_ok-fresh_lane.field-0
+    (fresh_lanes-more c.args.plan.now c.args.is_kept k c.link-item.result c.loop-link.lanes.items
+    c.in_ok-fresh_lane.field-0
     c.in_ok-fresh_lane-2.field-0 at c.loop-link.invariant c.in_ok-fresh_lane.ensures c.in_ok-fresh_lane-2.ensures)

@@ -15,7 +15,8 @@ invariant_of-result c =
     c.len-2.ensures ∙ c.in_ok-bridges.lanes.ok.0 ∙ ap length copies.lanes ∙ kept.1.lane_count in
     let customers : c.len-3.result ≡ length old.plan.customers =
     c.len-3.ensures ∙ c.in_ok-bridges.customers.ok.0 ∙ ap length copies.customers ∙ kept.1.customer_count in
-    let empty = subst (λ (n : ℕ). AreEmpty n (2 * length old.plan.links) (length old.plan.customers) c.in_ok-lists.lists)
+    let empty = subst (λ (n : ℕ). AreEmpty n (2 * length old.plan.links) (length old.plan.customers)
+    c.in_ok-lists.lists)
     bridges (subst (λ (n : ℕ). AreEmpty c.len.result n (length old.plan.customers) c.in_ok-lists.lists) lanes
     (subst (λ (n : ℕ). AreEmpty c.len.result c.len-2.result n c.in_ok-lists.lists) customers c.in_ok-lists.ensures)) in
     rw (

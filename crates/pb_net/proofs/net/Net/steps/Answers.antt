@@ -5,7 +5,7 @@ use Rattle.pb_lan.specs.declared.step.Place.TheVariants.{Bridge, Lane, Customer}
 use Rattle.pb_link.specs.Hands.{PlaceView}
 use Rattle.pb_link.specs.Lanes.{LaneView}
 use Rattle.pb_relay.specs.Standing.{BridgeView}
-use Rattle.pb_net.proofs.Records.{known_steps, known_number, known_lane, lawful_inside}
+use Rattle.pb_net.proofs.Records.{all_kept, known_steps, known_number, known_lane, lawful_inside}
 use Rattle.pb_net.proofs.net.Net.steps.Goals as goal
 
 pub returns-in-Bridge-clause-steps : goal.returns-in-Bridge-clause-steps
@@ -13,10 +13,11 @@ returns-in-Bridge-clause-steps c =
     let s = c.self.inside in
     let n = c.in-Bridge.number in
     let there = subst (λ (v : NetView). has_place v.plan (Bridge n) ≡ true) (sym c.self.view_is)
-    (rw c.in-Bridge.is at c.requires) in
+    (rw c.in-Bridge.is at c.requires.has) in
     let is = known_steps (λ (b : BridgeView). b.steps) (λ b. b.is_kept) s.bridges.items n _ c.index.result.now
     c.self.invariant.1.bridge_count (known_number s.plan.bridges n there) (rw c.index_of.ensures at c.index.ensures)
-    c.self.invariant.1.kept_bridges in
+    (all_kept (λ (b : BridgeView). b.is_kept) s.bridges.items s c.self.view_is c.requires.kept
+    c.self.invariant.1.kept_bridges) in
     rw c.in-Bridge.is (c.steps.ensures.steps is.0 ∙ is.1 ∙ ap (λ (v : NetView). steps_at v.rec (Bridge n))
     c.self.view_is)
 
@@ -28,11 +29,12 @@ returns-in-Lane-clause-steps c =
     let s = c.self.inside in
     let n = c.in-Lane.number in
     let there = subst (λ (v : NetView). has_place v.plan (Lane n) ≡ true) (sym c.self.view_is)
-    (rw c.in-Lane.is at c.requires) in
+    (rw c.in-Lane.is at c.requires.has) in
     let is = known_steps (λ (l : LaneView). l.steps) (λ l. l.is_kept) s.lanes.items n _ c.index-in-Lane.result.now
     c.self.invariant.1.lane_count (known_lane n (2 * length s.plan.links) there)
     (rw c.index_of-in-Lane.ensures at c.index-in-Lane.ensures)
-    c.self.invariant.1.kept_lanes in
+    (all_kept (λ (l : LaneView). l.is_kept) s.lanes.items s c.self.view_is c.requires.kept
+    c.self.invariant.1.kept_lanes) in
     rw c.in-Lane.is (c.steps-in-Lane.ensures.steps is.0 ∙ is.1 ∙ ap (λ (v : NetView). steps_at v.rec (Lane n))
     c.self.view_is)
 
@@ -44,12 +46,13 @@ returns-in-Customer-clause-steps c =
     let s = c.self.inside in
     let n = c.in-Customer.number in
     let there = subst (λ (v : NetView). has_place v.plan (Customer n) ≡ true) (sym c.self.view_is)
-    (rw c.in-Customer.is at c.requires) in
+    (rw c.in-Customer.is at c.requires.has) in
     let is = known_steps (λ (p : PlaceView). p.steps) (λ p. p.is_kept) s.customers.items n _
     c.index-in-Customer.result.now
     c.self.invariant.1.customer_count (known_number s.plan.customers n there)
     (rw c.index_of-in-Customer.ensures at c.index-in-Customer.ensures)
-    c.self.invariant.1.kept_customers in
+    (all_kept (λ (p : PlaceView). p.is_kept) s.customers.items s c.self.view_is c.requires.kept
+    c.self.invariant.1.kept_customers) in
     rw c.in-Customer.is (c.steps-in-Customer.ensures.steps is.0 ∙ is.1 ∙ ap
     (λ (v : NetView). steps_at v.rec (Customer n)) c.self.view_is)
 
