@@ -1,5 +1,6 @@
 -- Events that were performed one after the other.
-use Rattle.std.proofs.Common.{◌≡◌, ◌≤◌, ◌<◌, ◌+◌, ◌-◌, ℕ, Bool, true, List, [], ◌∷◌, ◌++◌, length, Ok, Err, refl, sym, ap}
+use Rattle.std.proofs.Common.{◌≡◌, ◌≤◌, ◌<◌, ◌+◌, ◌-◌, ℕ, Bool, true, List, [], ◌∷◌, ◌++◌, length, Ok, Err, refl, sym}
+use Rattle.std.proofs.Common.{ap}
 use Rattle.std.proofs.Common.{subst, ◌∙◌, arith, length-append}
 use Rattle.pb_frame.proofs.Lists.{All-append, All-imply}
 use Rattle.pb_lan.specs.declared.event.Event.{Event}
@@ -33,6 +34,11 @@ done-one old new event place h = (new, subst (λ p. IsAnswer old event (Ok (Done
 pub done-plan : (old new : NetView) (events : List Event) → HaveDone old events new → new.plan ≡ old.plan
 done-plan old new [] e = ap (λ v. v.plan) e
 done-plan old new (event ∷ events) (between, answer, rest) = done-plan between new events rest ∙ answer.2
+
+-- events leave it as it is whether the steps are kept
+pub done-kept : (old new : NetView) (events : List Event) → HaveDone old events new → new.is_kept ≡ old.is_kept
+done-kept old new [] e = ap (λ v. v.is_kept) e
+done-kept old new (event ∷ events) (between, answer, rest) = done-kept between new events rest ∙ answer.4
 
 pub answer-plan : (old new : NetView) (event : Event) (result : Result Did NetFault) → IsAnswer old event result new
     → new.plan ≡ old.plan

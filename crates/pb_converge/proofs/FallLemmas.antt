@@ -1,5 +1,5 @@
 -- The ends of links that names disable.
-use Rattle.std.proofs.Common.{◌≡◌, ◌<◌, ◌⊎◌, ◌+◌, ℕ, suc, true, false, cond, List, [], ◌∷◌, ◌++◌, map, flat_map}
+use Rattle.std.proofs.Common.{◌≡◌, ◌<◌, ◌⊎◌, ◌+◌, ℕ, suc, Bool, true, false, cond, List, [], ◌∷◌, ◌++◌, map, flat_map}
 use Rattle.std.proofs.Common.{take, length, slice_get, get_or, Some, string_bytes, refl, sym, ap, subst, ◌∙◌}
 use Rattle.std.proofs.Common.{append-nil}
 use Rattle.std.proofs.lemmas.Grind.{flat_map-append}
@@ -18,10 +18,10 @@ use Rattle.pb_lan.specs.declared.plan.Plan.{Plan}
 use Rattle.pb_lan.specs.declared.plan.End.{End}
 use Rattle.pb_lan.specs.declared.plan.LinkPlan.{LinkPlan}
 use Rattle.pb_net.specs.Answers.{NetView}
-use Rattle.pb_converge.proofs.DriveLemmas.{done-append}
+use Rattle.pb_converge.proofs.DriveLemmas.{done-append, done-kept}
 use Rattle.pb_converge.specs.Drives.{HasBroken, HaveDone, IsRefusal}
-use Rattle.pb_converge.specs.Falls.{end_name, fails, ends_down, all_down, set_down, downs, fresh, IsClear, Judges}
-use Rattle.pb_converge.specs.Falls.{HaveFallen, IsRefused}
+use Rattle.pb_converge.specs.Falls.{end_name, fails, ends_down, all_down, set_down, downs, fresh_by, IsClear}
+use Rattle.pb_converge.specs.Falls.{Judges, HaveFallen, IsRefused}
 use Rattle.pb_converge.specs.declared.falling.DownFault.{DownFault}
 use Rattle.pb_converge.specs.declared.fault.DriveFault.{DriveFault}
 
@@ -87,13 +87,22 @@ fallen_more plan names k w mid new within is before clear one =
     let f : String Global → List Event = λ v. map set_down (all_down plan (string_bytes v)) in
     let split : downs plan (take k names ++ w ∷ []) ≡ downs plan (take k names) ++ f w =
     flat_map-append f (take k names) (w ∷ []) ∙ ap (λ xs. downs plan (take k names) ++ xs) (append-nil (f w)) in
+    let kept : mid.is_kept ≡ new.is_kept = sym (done-kept mid new (f w) one) in
+    let from_start = subst (λ b. HaveDone (fresh_by b plan) (downs plan (take k names)) mid) kept before.done in
     subst (λ ws. HaveFallen plan ws new)
     (ap (λ x. take k names ++ x ∷ []) is ∙ sym (take_more names k w within))
     (record {
       clear = All-append (λ v. IsClear plan (string_bytes v)) (take k names) (w ∷ []) before.clear (clear, tt);
-      done = subst (λ es. HaveDone (fresh plan) es new) (sym split)
-          (done-append (fresh plan) mid new (downs plan (take k names)) (f w) before.done one);
+      done = subst (λ es. HaveDone (fresh_by new.is_kept plan) es new) (sym split)
+          (done-append (fresh_by new.is_kept plan) mid new (downs plan (take k names)) (f w) from_start one);
     })
+
+-- the events that disable what the names disable were performed from the start of the network
+pub fallen_from : {old : NetView} {is_kept : Bool} (plan : Plan) (names : List (String Global)) (new : NetView)
+    → old ≡ fresh_by is_kept plan → new.is_kept ≡ old.is_kept → HaveFallen plan names new
+    → HaveDone (fresh_by is_kept plan) (downs plan names) new
+fallen_from plan names new start kept fallen =
+    subst (λ k. HaveDone (fresh_by k plan) (downs plan names) new) (kept ∙ ap (λ v. v.is_kept) start) fallen.done
 
 -- the name at this index is refused
 pub refused_at : (plan : Plan) (names : List (String Global)) (k : ℕ) (w : String Global) (text : List ℕ)

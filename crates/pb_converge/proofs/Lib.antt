@@ -4,5 +4,4 @@ pub mod TickLemmas
 pub mod LookLemmas
 pub mod FallLemmas
 pub mod LimitLemmas
-pub mod EnoughLemmas
 pub mod RestLemmas

@@ -75,14 +75,18 @@ Judges plan name index (Some (Unknown at)) =
 Judges plan name index (Some (Ambiguous at)) =
     (at ≡ index) × (is_link plan name ≡ true) × (is_bridge plan name ≡ true)
 
--- a network that has taken no step
+-- a network that has taken no step, and keeps its steps or only counts them
+abbrev pub fresh_by : Bool → Plan → NetView
+fresh_by is_kept plan = record { plan = plan; rec = empty_record plan; is_kept = is_kept }
+
+-- a network that has taken no step, and only counts its steps
 abbrev pub fresh : Plan → NetView
-fresh plan = record { plan = plan; rec = empty_record plan }
+fresh plan = fresh_by false plan
 
 -- each text is a name, and what it names was disabled
 pub record HaveFallen (plan : Plan) (names : List (String Global)) (net : NetView) : Type 0 where
   pub clear : AllByRecursion (λ w. IsClear plan (string_bytes w)) names
-  pub done : HaveDone (fresh plan) (downs plan names) net
+  pub done : HaveDone (fresh_by net.is_kept plan) (downs plan names) net
 
 -- a name is refused for this reason
 pub record IsRefused (plan : Plan) (names : List (String Global)) (fault : DownFault) : Type 0 where

@@ -12,7 +12,7 @@ ghost use Rattle.pb_converge.specs.Falls.{
   ends_down,
   end_name,
   fails,
-  fresh,
+  fresh_by,
   has_port,
   is_link,
   is_bridge,
@@ -239,8 +239,9 @@ fn fall_all(
     names: &[String],
 ) -> Result<Option<DownFault>, DriveFault>
     requires sound { IsSound plan.now }
-    requires fresh { net.old ≡ fresh plan.now }
-    ensures { MatchResult result (λ fault. AnswersFalls plan.now names.now fault net.new)
+    requires fresh { net.old ≡ fresh_by net.old.is_kept plan.now }
+    ensures kept { OnOk result (net.new.is_kept ≡ net.old.is_kept) }
+    ensures falls { MatchResult result (λ fault. AnswersFalls plan.now names.now fault net.new)
         (λ fault. HasBroken fault net.old net.new) }
 {
     for (index, name) in names.iter().enumerate() {
@@ -270,13 +271,14 @@ pub fn disables(
     names: &[String],
 ) -> Result<Option<DownFault>, DriveFault>
     requires sound { IsSound plan.now }
-    requires fresh { net.old ≡ fresh plan.now }
+    requires fresh { net.old ≡ fresh_by net.old.is_kept plan.now }
+    ensures kept { OnOk result (net.new.is_kept ≡ net.old.is_kept) }
     ensures falls { IfOk result (λ fault. AnswersFalls plan.now names.now fault net.new) }
     ensures err { IfErr result (λ fault. HasBroken fault net.old net.new) }
     ensures enough { IfErr result (λ fault. fault ≢ DriveFault.Memory → HasEnoughMemory net.new.rec) }
 {
     match fall_all(alloc, net, plan, names) {
         Ok(fault) => Ok(fault),
-        Err(fault) => Err(fault_in(net, plan, fault)),
+        Err(fault) => Err(fault_in(net, fault)),
     }
 }

@@ -16,7 +16,7 @@ pub use draining::drain;
 pub use falling::{DownFault, disables};
 pub use fault::DriveFault;
 pub use limit::fault_in;
-pub use nets::{check_memory, copied, fresh, shape_of};
+pub use nets::{check_memory, check_tallies, copied, fresh, shape_of};
 pub use rest::Rest;
 pub use resting::{fault_of, put_rest, rests};
 pub use settling::{settle, stand};

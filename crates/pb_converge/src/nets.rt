@@ -12,7 +12,8 @@ use pb_lan::{Plan, Record, Shape};
 use pb_net::Net;
 use std::alloc::Global;
 
-/// Returns the network of a plan, in which no place has taken a step.
+/// Returns the network of a plan, in which no place has taken a step. It only counts its steps: its memory does not
+/// grow with them.
 ///
 /// # Errors
 ///
@@ -21,7 +22,7 @@ pub fn fresh(alloc: Global, plan: &Plan) -> Result<Net, Memory>
     requires { IsSound plan.now }
     ensures { IfOk result (λ net. net ≡ fresh plan.now) }
 {
-    Net::new(alloc, plan.clone()?)
+    Net::counting(alloc, plan.clone()?)
 }
 
 /// Returns a copy of a network: each of its places has taken the same steps, and both go on independently.
@@ -35,12 +36,13 @@ pub fn copied(net: &Net) -> Result<Net, Memory>
     Ok(net.clone()?)
 }
 
-/// Checks that no allocation failed in a step of a bridge.
+/// Checks that no allocation failed in the steps that tallies count. A bridge that lacks memory drops what it can't
+/// store, also a BPDU, and such a record says nothing of the plan. Allocates nothing.
 ///
 /// # Errors
 ///
-/// `Memory` if one failed.
-fn check_tallies(tallies: &Tallies) -> Result<(), Memory>
+/// `Memory` if an allocation failed in a step of a bridge.
+pub fn check_tallies(tallies: &Tallies) -> Result<(), Memory>
     ensures { OnOk result (HasEnoughMemory tallies.now) }
 {
     if tallies.lacked_memory() {
@@ -49,8 +51,7 @@ fn check_tallies(tallies: &Tallies) -> Result<(), Memory>
     Ok(())
 }
 
-/// Checks that no allocation failed in the steps of a record. A bridge that lacks memory drops what it can't store,
-/// also a BPDU, and such a record says nothing of the plan.
+/// Checks that no allocation failed in the steps of a record, as [`check_tallies`] does.
 ///
 /// # Errors
 ///
@@ -62,17 +63,16 @@ pub fn check_memory(alloc: Global, rec: &Record) -> Result<(), Memory>
     check_tallies(&tallies)
 }
 
-/// Returns the states of all ports after the steps of a record in which no allocation failed.
+/// Returns the states of all ports after the steps that tallies count, in none of which an allocation failed.
 ///
 /// # Errors
 ///
 /// `Memory` if an allocation failed in a step of a bridge, or now.
-pub fn shape_of(alloc: Global, plan: &Plan, rec: &Record) -> Result<Shape, Memory>
+pub fn shape_of(alloc: Global, plan: &Plan, tallies: &Tallies) -> Result<Shape, Memory>
     requires { IsSound plan.now }
-    ensures enough { IfOk result (λ _. HasEnoughMemory rec.now) }
-    ensures shape { IfOk result (λ shape. shape ≡ last_shape plan.now rec.now) }
+    ensures enough { IfOk result (λ _. HasEnoughMemory tallies.now) }
+    ensures shape { IfOk result (λ shape. shape ≡ last_shape plan.now tallies.now) }
 {
-    let tallies = Tallies::of(alloc, rec)?;
-    check_tallies(&tallies)?;
-    last_shape(alloc, plan, &tallies)
+    check_tallies(tallies)?;
+    last_shape(alloc, plan, tallies)
 }

@@ -148,7 +148,7 @@ pub fn stand(net: &mut Net, plan: &Plan, ticks: u32, events: u64) -> Result<(), 
         Spanning::Fixed => Ok(()),
         Spanning::Rstp => match go_round(net, plan, ticks, events) {
             Ok(()) => Ok(()),
-            Err(fault) => Err(fault_in(net, plan, fault)),
+            Err(fault) => Err(fault_in(net, fault)),
         },
     }
 }
@@ -183,7 +183,7 @@ pub fn settle(
         Spanning::Fixed => Ok(Rest::Given),
         Spanning::Rstp => match rounds(alloc, net, plan, most, events) {
             Ok(rest) => Ok(rest),
-            Err(fault) => Err(fault_in(net, plan, fault)),
+            Err(fault) => Err(fault_in(net, fault)),
         },
     }
 }

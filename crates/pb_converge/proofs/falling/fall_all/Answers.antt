@@ -1,12 +1,13 @@
-use Rattle.std.proofs.Common.{map, take, subst, sym}
+use Rattle.std.proofs.Common.{◌≡◌, map, take, subst, sym, ◌∙◌}
 use Rattle.std.proofs.lemmas.Result.{err_from_is_err_and}
+use Rattle.pb_converge.proofs.DriveLemmas.{done-kept}
 use Rattle.pb_converge.proofs.FallLemmas.{broken-later, refused_at, fallen_more}
 use Rattle.pb_converge.specs.Drives.{HasBroken, HaveDone}
-use Rattle.pb_converge.specs.Falls.{IsClear, all_down, downs, fresh, set_down}
+use Rattle.pb_converge.specs.Falls.{IsClear, all_down, downs, fresh_by, set_down}
 use Rattle.pb_converge.proofs.falling.fall_all.Goals as goal
 
-pub returns-in-Some : goal.returns-in-Some
-returns-in-Some c =
+pub returns-in-Some-clause-falls : goal.returns-in-Some-clause-falls
+returns-in-Some-clause-falls c =
     refused_at c.args.plan.now c.args.names.now c.loop-index.index c.index-names-index.result c.as_str.result.now
     c.in-Some.fault c.loop-index-test.true c.index-names-index.is c.as_str.ensures.value
     (rw c.in-Some.is at c.in_ok-fault.ensures)
@@ -22,16 +23,20 @@ loop-index-preserved c =
       c.in_ok-fall_named-in-None.ensures.plan,
       fallen_more plan c.args.names.now c.loop-index.index c.index-names-index.result mid new
           c.loop-index-test.true c.index-names-index.is c.loop-index.invariant.1 clear one,
+      done-kept mid new _ one ∙ c.loop-index.invariant.2,
     )
 
-pub returns-in_err-fall_named-in-None : goal.returns-in_err-fall_named-in-None
-returns-in_err-fall_named-in-None c =
+pub returns-in_err-fall_named-in-None-clause-falls : goal.returns-in_err-fall_named-in-None-clause-falls
+returns-in_err-fall_named-in-None-clause-falls c =
     let p = err_from_is_err_and c.from_residual-in_err-fall_named-in-None.result
     c.from_residual-in_err-fall_named-in-None.ensures.1 in
     let plan = c.args.plan.now in
     let new = c.fall_named.new.net in
     let fault = c.in_err-fall_named-in-None.field-0.0 in
-    let b = broken-later fault (downs plan (take c.loop-index.index c.args.names.now)) (fresh plan) c.loop-index.net new
+    let mid = c.loop-index.net in
+    let start = subst (λ k. c.args.net.now ≡ fresh_by k plan) (sym c.loop-index.invariant.2) c.requires.fresh in
+    let b = broken-later fault (downs plan (take c.loop-index.index c.args.names.now)) (fresh_by mid.is_kept plan) mid
+    new
     c.loop-index.invariant.1.done c.in_err-fall_named-in-None.ensures.err in
-    let same = subst (λ net. HasBroken fault net new) (sym c.requires.fresh) b in
+    let same = subst (λ net. HasBroken fault net new) (sym start) b in
     rw p.1 (subst (λ e. HasBroken e c.args.net.now new) (sym p.2) same)
