@@ -26,7 +26,8 @@ fn put_settled(alloc: Global, out: &mut String, plan: &Plan, ticks: u32) -> Resu
 {
     let mut net = fresh(alloc, plan)?;
     let rest = rests(alloc, &mut net, plan, ticks)?;
-    let shape = shape_of(alloc, plan, &net.finish())?;
+    let tallies = net.tallies()?;
+    let shape = shape_of(alloc, plan, &tallies)?;
     put_rest(out, rest)?;
     out.push_str("settled ")?;
     put_forest(alloc, out, plan, &shape)?;

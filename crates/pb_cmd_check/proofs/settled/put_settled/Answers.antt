@@ -19,7 +19,7 @@ returns c =
     let f = c.in_ok-put_forest.ensures in
     let front : pushed ≡ old ++ (line ++ word) = with_piece old (string_bytes c.put_rest.new.out) pushed line word
     c.in_ok-put_rest.ensures c.in_ok-push_str.ensures.bytes in
-    let shape = c.in_ok-shape.ensures.shape ∙ ap (last_shape plan) c.finish.ensures.record in (
+    let shape = c.in_ok-shape.ensures.shape ∙ ap (last_shape plan) c.in_ok-tallies.ensures.record in (
       line ++ word ++ f.0,
       with_piece old pushed (string_bytes c.put_forest.new.out) (line ++ word) f.0 front f.1,
       record {
@@ -27,7 +27,7 @@ returns c =
         rest = rest;
         rested = subst (λ net. HasRested c.args.ticks 1000000000 rest net last) c.in_ok-net.ensures
             c.in_ok-rest.ensures.ok;
-        enough = subst HasEnoughMemory c.finish.ensures.record c.in_ok-shape.ensures.enough;
+        enough = subst HasEnoughMemory c.in_ok-tallies.ensures.record c.in_ok-shape.ensures.enough;
         forest = f.0;
         is_forest = subst (λ s. IsForestText plan s f.0) shape f.2;
         text_is = refl;
