@@ -11,7 +11,7 @@ ghost use Rattle.pb_cmd_diff.specs.Ends.{computed_at, protocol_end, given_at, gi
 ghost use Rattle.pb_cmd_diff.specs.Ends.{AreEnds};
 
 use pb_cmd_survive::Standing;
-use pb_converge::{check_memory, copied, shape_of};
+use pb_converge::{check_tallies, copied, shape_of};
 use pb_forest::state_in;
 use pb_frame::Memory;
 use pb_lan::{End, Plan, PortState, Shape, Spanning};
@@ -114,12 +114,13 @@ fn ends_in(alloc: Global, net: Net, plan: &Plan) -> Result<Vec<LinkEnds>, Memory
     match plan.spanning {
         Spanning::Rstp => {
             let ends = protocol_ends(alloc, &net, plan)?;
-            check_memory(alloc, &net.finish())?;
+            let tallies = net.tallies()?;
+            check_tallies(&tallies)?;
             Ok(ends)
         }
         Spanning::Fixed => {
-            let rec = net.finish();
-            let shape = shape_of(alloc, plan, &rec)?;
+            let tallies = net.tallies()?;
+            let shape = shape_of(alloc, plan, &tallies)?;
             Ok(given_ends(alloc, plan, &shape)?)
         }
     }

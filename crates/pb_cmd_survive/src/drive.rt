@@ -76,7 +76,7 @@ fn take_down(alloc: Global, net: &mut Net, plan: &Plan, failure: Failure) -> Res
     match net.run(events.as_slice()) {
         Ok(()) => Ok(()),
         Err((_, NetFault::Memory)) => Err(DriveFault::Memory),
-        Err((_, NetFault::StepLimit)) => Err(fault_in(net, plan, DriveFault::Steps)),
+        Err((_, NetFault::StepLimit)) => Err(fault_in(net, DriveFault::Steps)),
         Err((_, NetFault::NoSuch)) => unreachable!(),
     }
 }

@@ -17,23 +17,24 @@ use crate::standing::Standing;
 use crate::view::{View, views};
 use pb_converge::{DriveFault, shape_of};
 use pb_frame::Memory;
-use pb_lan::{Plan, Record, Seq};
+use pb_lan::{Plan, Seq};
+use pb_net::Tallies;
 use std::alloc::Global;
 use std::thread::Threads;
 
-/// Returns the state of services at the end of a record.
+/// Returns the state of services after the counted steps.
 fn last_views(
     alloc: Global,
     plan: &Plan,
-    rec: &Record,
+    tallies: &Tallies,
     failure: Failure,
     services: &[u8],
 ) -> Result<Seq<View>, Memory>
     requires { IsSound plan.now }
-    ensures enough { IfOk result (λ _. HasEnoughMemory rec.now) }
-    ensures views { IfOk result (AreViews plan.now (last_shape plan.now rec.now) failure services.now) }
+    ensures enough { IfOk result (λ _. HasEnoughMemory tallies.now) }
+    ensures views { IfOk result (AreViews plan.now (last_shape plan.now tallies.now) failure services.now) }
 {
-    let shape = shape_of(alloc, plan, rec)?;
+    let shape = shape_of(alloc, plan, tallies)?;
     views(alloc, plan, &shape, failure, services)
 }
 
@@ -59,8 +60,8 @@ pub fn look_at(
     ensures { IfOk result (IsImpactOn standing.now services.now failure) }
 {
     let (net, rest) = drive(alloc, standing, failure)?;
-    let rec = net.finish();
-    let views = last_views(alloc, standing.plan, &rec, failure, services)?;
+    let tallies = net.tallies()?;
+    let views = last_views(alloc, standing.plan, &tallies, failure, services)?;
     Ok(Impact {
         failure,
         rest,

@@ -1,4 +1,4 @@
-use Rattle.std.proofs.Common.{◌≡◌, subst, take, ◌∙◌}
+use Rattle.std.proofs.Common.{◌≡◌, subst, ◌∙◌}
 use Rattle.pb_net.specs.Answers.{HasStopped}
 use Rattle.pb_cmd_survive.specs.Failures.{downs}
 use Rattle.pb_cmd_survive.proofs.DriveLemmas.{none_lacks, run-plan}
@@ -6,12 +6,6 @@ use Rattle.pb_cmd_survive.proofs.drive.take_down.Goals as goal
 
 pub returns-in-Ok-clause-plan : goal.returns-in-Ok-clause-plan
 returns-in-Ok-clause-plan c = run-plan c.args.net.now c.run.new.self c.as_slice.result.now c.in-Ok.ensures.ok
-    ∙ c.requires.plan
-
-pub fault_in-requires-clause-plan : goal.fault_in-requires-clause-plan
-fault_in-requires-clause-plan c =
-    let arm = c.in-Err-default-StepLimit in
-    run-plan c.args.net.now c.run.new.self (take arm.field-0-0 c.as_slice.result.now) arm.ensures.fault.before
     ∙ c.requires.plan
 
 pub unreachable-requires : goal.unreachable-requires
