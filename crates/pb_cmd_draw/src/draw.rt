@@ -20,7 +20,7 @@ use pb_frame::Memory;
 use pb_lan::{Plan, Record, Shape};
 use pb_messages::{CommandFault, write_whole};
 use pb_names::service_named;
-use pb_net::Net;
+use pb_net::{Net, Tallies};
 use pb_report::write_refusal;
 use pb_service::read_plan;
 use std::alloc::Global;
@@ -71,21 +71,21 @@ fn put_picture(
     }
 }
 
-/// Appends the picture of a network at the end of a record.
+/// Appends the picture of a network after the counted steps.
 fn put_last(
     alloc: Global,
     out: &mut String,
     plan: &Plan,
-    rec: &Record,
+    tallies: &Tallies,
     chosen: Option<u8>,
     format: Format,
 ) -> Result<(), Memory>
     requires { IsSound plan.now }
-    ensures enough { OnOk result (HasEnoughMemory rec.now) }
+    ensures enough { OnOk result (HasEnoughMemory tallies.now) }
     ensures picture { OnOk result ((text : List ℕ) × (string_bytes out.new ≡ string_bytes out.old ++ text)
-        × IsPictureOf plan.now (last_shape plan.now rec.now) chosen format text) }
+        × IsPictureOf plan.now (last_shape plan.now tallies.now) chosen format text) }
 {
-    let shape = shape_of(alloc, plan, rec)?;
+    let shape = shape_of(alloc, plan, tallies)?;
     put_picture(alloc, out, plan, &shape, chosen, format)
 }
 
@@ -105,7 +105,8 @@ fn put_rested(
 {
     let rest = settle(alloc, &mut net, plan, asked.ticks, MOST_EVENTS)?;
     let chosen = chosen_of(plan, asked.service);
-    put_last(alloc, out, plan, &net.finish(), chosen, asked.format)?;
+    let tallies = net.tallies()?;
+    put_last(alloc, out, plan, &tallies, chosen, asked.format)?;
     Ok(rest)
 }
 
@@ -181,8 +182,8 @@ fn draw<W: Write>(
 ///
 /// Each of `asked.downs` names a link, a bridge, or a port to another bridge as `BRIDGE:PORT`, as [`disables`]
 /// describes. If the bridges run the rapid spanning tree (IEEE 802.1D-2004 clause 17), each takes at most `asked.ticks`
-/// ticks (seconds). The picture has the states at the end of a lawful record of that network, as [`Net::finish`]
-/// returns it, in which no allocation failed. `Drawn` has whether the bridges converged. [`scene_of`] decides what is
+/// ticks (seconds). The picture has the states at the end of a lawful record of that network, as [`Net::tallies`]
+/// counts it, in which no allocation failed. `Drawn` has whether the bridges converged. [`scene_of`] decides what is
 /// drawn, [`put_svg`] and [`put_dot`] how.
 ///
 /// If the file is not a valid plan, the line `plan: N WORD` is written, as `check` prints it, and `Refused` is

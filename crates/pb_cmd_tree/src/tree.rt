@@ -19,9 +19,9 @@ use pb_converge::{
     DownFault, DriveFault, Rest, disables, fault_of, fresh, put_rest, settle, shape_of,
 };
 use pb_frame::Memory;
-use pb_lan::{Plan, Record, Spanning};
+use pb_lan::{Plan, Spanning};
 use pb_messages::{CommandFault, write_whole};
-use pb_net::Net;
+use pb_net::{Net, Tallies};
 use pb_report::{put_forest, write_refusal};
 use pb_service::read_plan;
 use std::alloc::Global;
@@ -30,25 +30,35 @@ use std::io::Write;
 /// The most events besides ticks until convergence.
 const MOST_EVENTS: u64 = 1_000_000_000;
 
-/// Appends whether the shape at the end of a record is a forest for each service.
-fn put_last_forest(alloc: Global, out: &mut String, plan: &Plan, rec: &Record) -> Result<(), Memory>
+/// Appends whether the states after the counted steps are a forest for each service.
+fn put_last_forest(
+    alloc: Global,
+    out: &mut String,
+    plan: &Plan,
+    tallies: &Tallies,
+) -> Result<(), Memory>
     requires { IsSound plan.now }
-    ensures enough { OnOk result (HasEnoughMemory rec.now) }
+    ensures enough { OnOk result (HasEnoughMemory tallies.now) }
     ensures text { OnOk result ((text : List ℕ) × (string_bytes out.new ≡ string_bytes out.old ++ text)
-        × IsForestText plan.now (last_shape plan.now rec.now) text) }
+        × IsForestText plan.now (last_shape plan.now tallies.now) text) }
 {
-    let shape = shape_of(alloc, plan, rec)?;
+    let shape = shape_of(alloc, plan, tallies)?;
     put_forest(alloc, out, plan, &shape)
 }
 
 /// Appends the trees of a plan that gives the states of the ports.
-fn put_planned(alloc: Global, out: &mut String, plan: &Plan, rec: &Record) -> Result<(), Memory>
+fn put_planned(
+    alloc: Global,
+    out: &mut String,
+    plan: &Plan,
+    tallies: &Tallies,
+) -> Result<(), Memory>
     requires { IsSound plan.now }
-    ensures enough { OnOk result (HasEnoughMemory rec.now) }
+    ensures enough { OnOk result (HasEnoughMemory tallies.now) }
     ensures text { OnOk result ((text : List ℕ) × (string_bytes out.new ≡ string_bytes out.old ++ text)
-        × IsGivenText plan.now (last_shape plan.now rec.now) text) }
+        × IsGivenText plan.now (last_shape plan.now tallies.now) text) }
 {
-    let shape = shape_of(alloc, plan, rec)?;
+    let shape = shape_of(alloc, plan, tallies)?;
     put_given(out, plan, &shape)?;
     put_forest(alloc, out, plan, &shape)?;
     put_services(alloc, out, plan, &shape)
@@ -70,11 +80,15 @@ fn put_rested(
 {
     let rest = settle(alloc, &mut net, plan, ticks, MOST_EVENTS)?;
     match plan.spanning {
-        Spanning::Fixed => Ok(put_planned(alloc, out, plan, &net.finish())?),
+        Spanning::Fixed => {
+            let tallies = net.tallies()?;
+            Ok(put_planned(alloc, out, plan, &tallies)?)
+        }
         Spanning::Rstp => {
             put_rest(out, rest)?;
             put_protocol(out, plan, &net)?;
-            Ok(put_last_forest(alloc, out, plan, &net.finish())?)
+            let tallies = net.tallies()?;
+            Ok(put_last_forest(alloc, out, plan, &tallies)?)
         }
     }
 }
@@ -133,7 +147,7 @@ fn print_trees<W: Write>(
 ///
 /// Each of `downs` names a link, a bridge, or a port to another bridge as `BRIDGE:PORT`, as [`disables`] describes.
 /// Each bridge takes at most `ticks` ticks (seconds). What is printed is the end of a lawful record of that network, as
-/// [`Net::finish`] returns it, in which no allocation failed.
+/// [`Net::tallies`] counts it, in which no allocation failed.
 ///
 /// If the bridges run the rapid spanning tree (IEEE 802.1D-2004 clause 17), the lines are
 ///

@@ -1,6 +1,7 @@
 use Rattle.std.proofs.Common.{[], string_bytes, refl, subst, sym, append-nil}
 use Rattle.std.proofs.lemmas.Result.{err_from_is_err_and}
 use Rattle.pb_converge.proofs.DriveLemmas.{done-plan}
+use Rattle.pb_converge.proofs.FallLemmas.{fallen_from}
 use Rattle.pb_converge.proofs.LimitLemmas.{caused-broken, caused-later}
 use Rattle.pb_converge.specs.Drives.{HasBroken, IsCaused}
 use Rattle.pb_converge.specs.Falls.{fresh, downs}
@@ -9,7 +10,9 @@ use Rattle.pb_cmd_draw.proofs.draw.put_fallen.Goals as goal
 pub put_rested-requires-clause-plan : goal.put_rested-requires-clause-plan
 put_rested-requires-clause-plan c =
     let fallen = rw c.in-None.is at c.in_ok-fault.ensures.falls in
-    done-plan (fresh c.args.plan.now) c.disables.new.net (downs c.args.plan.now c.args.asked.now.downs.now) fallen.done
+    done-plan (fresh c.args.plan.now) c.disables.new.net (downs c.args.plan.now c.args.asked.now.downs.now)
+    (fallen_from c.args.plan.now c.args.asked.now.downs.now c.disables.new.net c.in_ok-net.ensures
+    c.in_ok-fault.ensures.kept fallen)
 
 pub returns-in_err-fault-clause-err : goal.returns-in_err-fault-clause-err
 returns-in_err-fault-clause-err c =
@@ -27,9 +30,11 @@ returns-in_err-rest-in-None-clause-err c =
     c.from_residual-in_err-rest-in-None.ensures.1 in
     let plan = c.args.plan.now in
     let fallen = rw c.in-None.is at c.in_ok-fault.ensures.falls in
+    let done = fallen_from plan c.args.asked.now.downs.now c.disables.new.net c.in_ok-net.ensures
+    c.in_ok-fault.ensures.kept fallen in
     let fault = c.in_err-rest-in-None.field-0.0 in
     let caused = caused-later 1000000000 fault (downs plan c.args.asked.now.downs.now) (fresh plan) c.disables.new.net
-    fallen.done c.in_err-rest-in-None.ensures.err in
+    done c.in_err-rest-in-None.ensures.err in
     rw p.1 (subst (λ e. IsCaused 1000000000 e (fresh plan)) (sym p.2) caused)
 
 pub returns-in-Some-clause-ok : goal.returns-in-Some-clause-ok

@@ -23,12 +23,12 @@ returns-clause-ok c =
     let form = c.args.asked.now.format in
     let t = c.in_ok-put_last.ensures.picture in
     let last = subst (λ rec. IsPictureOf plan (last_shape plan rec) c.chosen_of-chosen.result form t.0)
-    c.finish.ensures.record t.2 in
+    c.in_ok-tallies.ensures.record t.2 in
     let picture = subst (λ chosen. IsPictureOf plan (last_shape plan c.settle.new.net.rec) chosen form t.0)
     c.chosen_of-chosen.ensures last in
     let planned = c.settle.ensures.plan in
-    let lawful = subst (λ rec. IsLawfulRecord spanning_tree plan rec) c.finish.ensures.record
-    (subst (λ p. IsLawfulRecord spanning_tree p c.finish.result) planned c.finish.ensures.lawful) in (
+    let lawful = subst (λ rec. IsLawfulRecord spanning_tree plan rec) c.in_ok-tallies.ensures.record
+    (subst (λ p. IsLawfulRecord spanning_tree p c.in_ok-tallies.tallies) planned c.in_ok-tallies.ensures.lawful) in (
       t.0,
       t.1,
       record {
@@ -36,7 +36,7 @@ returns-clause-ok c =
         rested = c.in_ok-rest.ensures.ok;
         planned = planned;
         lawful = lawful;
-        enough = subst HasEnoughMemory c.finish.ensures.record c.in_ok-put_last.ensures.enough;
+        enough = subst HasEnoughMemory c.in_ok-tallies.ensures.record c.in_ok-put_last.ensures.enough;
         picture = picture;
       },
     )

@@ -26,7 +26,7 @@ returns-in_ok-put_planned-in-Fixed-clause-ok c =
     let last = c.settle.new.net in
     let rest = c.in_ok-rest.rest in
     let t = c.in_ok-put_planned-in-Fixed.ensures.text in
-    let given = subst (λ r. IsGivenText plan (last_shape plan r) t.0) c.finish.ensures.record t.2 in
+    let given = subst (λ r. IsGivenText plan (last_shape plan r) t.0) c.in_ok-tallies-in-Fixed.ensures.record t.2 in
     let fits = rest_in c.args.ticks 1000000000 rest plan.spanning c.args.net last (ap (λ p. p.spanning) c.requires.plan)
     c.in_ok-rest.ensures.ok in (
       t.0,
@@ -36,9 +36,11 @@ returns-in_ok-put_planned-in-Fixed-clause-ok c =
         rest = rest;
         rested = c.in_ok-rest.ensures.ok;
         planned = c.settle.ensures.plan;
-        lawful = lawful_end plan last c.finish.result c.settle.ensures.plan c.finish.ensures.record
-            c.finish.ensures.lawful;
-        enough = subst HasEnoughMemory c.finish.ensures.record c.in_ok-put_planned-in-Fixed.ensures.enough;
+        lawful = lawful_end plan last c.in_ok-tallies-in-Fixed.tallies c.settle.ensures.plan
+            c.in_ok-tallies-in-Fixed.ensures.record
+            c.in_ok-tallies-in-Fixed.ensures.lawful;
+        enough = subst HasEnoughMemory c.in_ok-tallies-in-Fixed.ensures.record
+            c.in_ok-put_planned-in-Fixed.ensures.enough;
         trees = given_tree plan last.rec plan.spanning rest t.0 fits c.in-Fixed.is given;
       },
     )
@@ -52,7 +54,7 @@ returns-in_ok-put_last_forest-in-Rstp-clause-ok c =
     let trees = protocol_lines plan last.rec in
     let f = c.in_ok-put_last_forest-in-Rstp.ensures.text in
     let text = front ++ trees ++ f.0 in
-    let forest = subst (λ r. IsForestText plan (last_shape plan r) f.0) c.finish-in-Rstp.ensures.record f.2 in
+    let forest = subst (λ r. IsForestText plan (last_shape plan r) f.0) c.in_ok-tallies-in-Rstp.ensures.record f.2 in
     let fits = rest_in c.args.ticks 1000000000 rest plan.spanning c.args.net last (ap (λ p. p.spanning) c.requires.plan)
     c.in_ok-rest.ensures.ok in (
       text,
@@ -64,9 +66,10 @@ returns-in_ok-put_last_forest-in-Rstp-clause-ok c =
         rest = rest;
         rested = c.in_ok-rest.ensures.ok;
         planned = c.settle.ensures.plan;
-        lawful = lawful_end plan last c.finish-in-Rstp.result c.settle.ensures.plan c.finish-in-Rstp.ensures.record
-            c.finish-in-Rstp.ensures.lawful;
-        enough = subst HasEnoughMemory c.finish-in-Rstp.ensures.record
+        lawful = lawful_end plan last c.in_ok-tallies-in-Rstp.tallies c.settle.ensures.plan
+            c.in_ok-tallies-in-Rstp.ensures.record
+            c.in_ok-tallies-in-Rstp.ensures.lawful;
+        enough = subst HasEnoughMemory c.in_ok-tallies-in-Rstp.ensures.record
             c.in_ok-put_last_forest-in-Rstp.ensures.enough;
         trees = protocol_tree plan last.rec plan.spanning rest text fits c.in-Rstp.is
             (record { forest = f.0; is_forest = forest; text_is = refl });
