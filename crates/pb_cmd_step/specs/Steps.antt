@@ -1,5 +1,5 @@
 -- The output of a step script.
-use Rattle.std.specs.Prelude.{◌≡◌, ℕ, ◌-◌, suc, Bool, List, [], ◌∷◌, ◌++◌, Option, Some, IfSome, length, slice_get, Ok, Err}
+use Rattle.std.specs.Prelude.{◌≡◌, ℕ, ◌-◌, suc, Bool, true, List, [], ◌∷◌, ◌++◌, Option, Some, IfSome, length, slice_get, Ok, Err}
 use Rattle.std.specs.Io.KnownBytes.{Appends}
 use Rattle.pb_lan.specs.Events.{empty_record, steps_at, with_step}
 use Rattle.pb_lan.specs.Records.{IsLawfulRecord}
@@ -47,7 +47,11 @@ StepAnswers limit n (line ∷ lines) old new text =
 
 -- the network of a plan, before any step
 abbrev pub start_of : Plan → NetView
-start_of plan = record { plan = plan; rec = empty_record plan }
+start_of plan = record { plan = plan; rec = empty_record plan; is_kept = true }
+
+-- a network of this plan, which keeps its steps
+abbrev pub KeepsStepsOf : Plan → NetView → Type 0
+KeepsStepsOf plan net = (net.plan ≡ plan) × (net.is_kept ≡ true)
 
 -- the report of a record: its counts, the services for which its last shape is no forest, and whether its bridges have
 -- settled

@@ -29,8 +29,10 @@ fn answer_test_line(
 ) -> Result<(), CommandFault>
     requires sound { IsSound names.now.plan.now }
     requires plan { net.old.plan ≡ names.now.plan.now }
+    requires kept { net.old.is_kept ≡ true }
     requires empty { string_bytes out.old ≡ [] }
     ensures plan { OnOk result (net.new.plan ≡ names.now.plan.now) }
+    ensures kept { OnOk result (net.new.is_kept ≡ true) }
     ensures ok { OnOk result (TestAnswer limit number line.now (noted net.old notes.old) (noted net.new notes.new)
         (string_bytes out.new)) }
     ensures steps { IsErrOf result CommandFault.Steps → IsAtLimit limit net.old (line.now ∷ []) }
@@ -65,8 +67,10 @@ pub(crate) fn answer_line(
 ) -> Result<(), CommandFault>
     requires sound { IsSound names.now.plan.now }
     requires plan { net.old.plan ≡ names.now.plan.now }
+    requires kept { net.old.is_kept ≡ true }
     requires empty { string_bytes out.old ≡ [] }
     ensures plan { OnOk result (net.new.plan ≡ names.now.plan.now) }
+    ensures kept { OnOk result (net.new.is_kept ≡ true) }
     ensures ok { OnOk result (LineAnswer mode limit number line.now (noted net.old notes.old)
         (noted net.new notes.new) (string_bytes out.new)) }
     ensures steps { IsErrOf result CommandFault.Steps → IsAtLimit limit net.old (line.now ∷ []) }

@@ -12,7 +12,7 @@ ghost use Rattle.pb_messages.specs.BadLines.{longest_line};
 ghost use Rattle.pb_relay.specs.Settled.{TellsSettled};
 ghost use Rattle.pb_cmd_step.specs.Modes.{HaveAnswered, PrintsLines, PrintsLinesBeginning, noted};
 ghost use Rattle.pb_cmd_step.specs.Steps.{newest_at, HasGrown, StepAnswer, IsReport, IsAtLimit, PrintsSteps};
-ghost use Rattle.pb_cmd_step.specs.Steps.{PrintsStepsBeginning, start_of};
+ghost use Rattle.pb_cmd_step.specs.Steps.{PrintsStepsBeginning, KeepsStepsOf, start_of};
 ghost use Rattle.pb_report.specs.RecordTexts.{settled_line, IsRecordText};
 
 use crate::lines::answer_line;
@@ -32,6 +32,7 @@ use std::io::{Read, Write};
 fn newest(net: &Net, place: Place) -> &Step
     requires has { has_place net.now.plan place ≡ true }
     requires grown { HasGrown net.now.rec place }
+    requires kept { net.now.is_kept ≡ true }
     ensures lawful { IsLawfulRecord spanning_tree net.now.plan net.now.rec }
     ensures newest { newest_at net.now.rec place ≡ Some result.now }
 {
@@ -57,7 +58,9 @@ pub(crate) fn answer_step(
 ) -> Result<(), CommandFault>
     requires sound { IsSound names.now.plan.now }
     requires plan { net.old.plan ≡ names.now.plan.now }
+    requires kept { net.old.is_kept ≡ true }
     ensures plan { OnOk result (net.new.plan ≡ names.now.plan.now) }
+    ensures kept { OnOk result (net.new.is_kept ≡ true) }
     ensures ok { OnOk result ((text : List ℕ) × (string_bytes out.new ≡ string_bytes out.old ++ text)
         × StepAnswer limit number line.now net.old net.new text) }
     ensures steps { IsErrOf result CommandFault.Steps → IsAtLimit limit net.old (line.now ∷ []) }
@@ -105,7 +108,7 @@ fn answer_steps<R: Read, W: Write>(
     requires held { held lines.old ≡ [] }
     requires sound { IsSound names.now.plan.now }
     requires fresh { net.old ≡ start_of names.now.plan.now }
-    ensures plan { OnOk result (net.new.plan ≡ names.now.plan.now) }
+    ensures net { OnOk result (KeepsStepsOf names.now.plan.now net.new) }
     ensures ok { OnOk result (HaveAnswered mode limit names.now.plan.now (R.remaining reader.old) notes.old
         (W.contents writer.old) (W.contents writer.new) (noted net.new notes.new)) }
     ensures part { IfErr result (λ e. e ≢ CommandFault.Write →

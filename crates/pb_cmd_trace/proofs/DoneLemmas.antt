@@ -1,5 +1,6 @@
 -- The events that a trace performs.
-use Rattle.std.proofs.Common.{◌≡◌, ℕ, zero, suc, List, [], ◌∷◌, ◌++◌, Option, Some, None, string_bytes}
+use Rattle.std.proofs.Common.{◌≡◌, ℕ, zero, suc, List, [], ◌∷◌, ◌++◌, Option, Some, None, take}
+use Rattle.std.proofs.Common.{string_bytes}
 use Rattle.pb_converge.proofs.DriveLemmas.{done-append, done-one}
 use Rattle.pb_converge.proofs.LimitLemmas.{rested-done}
 use Rattle.pb_converge.specs.Drives.{HaveDone}
@@ -11,11 +12,13 @@ use Rattle.pb_names.specs.Numbers.{port_named}
 use Rattle.pb_net.specs.Answers.{NetView}
 use Rattle.pb_cmd_trace.specs.Onwards.{event_of}
 use Rattle.pb_cmd_trace.specs.Stories.{AnswersEntry, sent, unsent, AnswersFrame, followed, waits, absent, AreStories}
-use Rattle.pb_cmd_trace.specs.Stories.{HasBegun, IsConclusion, IsFollowed}
+use Rattle.pb_cmd_trace.specs.Stories.{HasBegun, HasJourneyed, IsConclusion, IsFollowed}
 use Rattle.pb_cmd_trace.specs.Walks.{HasWalked, Walks}
 use Rattle.pb_cmd_trace.specs.declared.entry.Entry.{Entry}
 use Rattle.pb_cmd_trace.specs.declared.frame.Fate.{Fate}
-use Rattle.pb_cmd_trace.specs.declared.frame.Fate.TheVariants.{Ended as fate_ended}
+use Rattle.pb_cmd_trace.specs.declared.frame.Fate.TheVariants.{Ended as fate_ended, GoesRound as fate_round}
+use Rattle.pb_cmd_trace.specs.declared.journey.Journey.TheVariants.{Told}
+use Rattle.pb_cmd_trace.specs.declared.round.FrameId.{FrameId}
 use Rattle.pb_cmd_trace.specs.declared.onward.Onward.{Onward}
 use Rattle.pb_cmd_trace.specs.declared.onward.Onward.TheVariants.{Feed}
 use Rattle.pb_cmd_trace.specs.declared.walk.Course.{Course}
@@ -72,6 +75,13 @@ stories-run plan [] old new text (same, none) = ([], same)
 stories-run plan (entry ∷ entries) old new text (between, front, back, first, others, is) =
     run-append old between new (entry-run plan entry fate_ended old between front first)
     (stories-run plan entries between new back others)
+
+pub journey-run : (plan : Plan) (entries : List Entry) (round : Option FrameId) (old new : NetView) (text : List ℕ)
+    → HasJourneyed plan entries (Told round) old new text → HasRun old new
+journey-run plan entries None old new text h = stories-run plan entries old new text h
+journey-run plan entries (Some frame) old new text h =
+    run-append old h.between new (stories-run plan (take h.index entries) old h.between h.front h.stories)
+    (entry-run plan h.entry (fate_round frame.number) h.between new h.back h.story)
 
 pub begun-run : (most : Option ℕ) (old new : NetView) (text : List ℕ) → HasBegun most old new text → HasRun old new
 begun-run (Some ticks) old new text h = rested-done ticks 1000000000 h.0 old new h.1

@@ -1,9 +1,9 @@
 -- The command: frames are injected one after the other, and the lines show where each goes.
-use Rattle.std.specs.Prelude.{◌≡◌, ℕ, List, ◌++◌, Option}
+use Rattle.std.specs.Prelude.{◌≡◌, ℕ, true, List, ◌++◌, Option}
 use Rattle.std.specs.Io.KnownBytes.{Appends, Keeps}
 use Rattle.pb_converge.specs.Drives.{ReachesLimit}
 use Rattle.pb_converge.specs.Enough.{HasEnoughMemory}
-use Rattle.pb_converge.specs.Falls.{HaveFallen, IsRefused, fresh}
+use Rattle.pb_converge.specs.Falls.{HaveFallen, IsRefused, fresh_by}
 use Rattle.pb_lan.specs.Records.{IsLawfulRecord}
 use Rattle.pb_lan.specs.declared.plan.Plan.{Plan}
 use Rattle.pb_lan.specs.declared.record.Record.{Record}
@@ -80,4 +80,4 @@ HasTold file asked (NoDown fault) before after = (plan : Plan) × IsToldBy file 
 
 -- the network of the plan in the file reaches the limit of steps of a place, or a million events
 abbrev pub RunsIntoLimit : List ℕ → Type 0
-RunsIntoLimit file = (plan : Plan) × IsToldBy file plan × ReachesLimit 1000000 (fresh plan)
+RunsIntoLimit file = (plan : Plan) × IsToldBy file plan × ReachesLimit 1000000 (fresh_by true plan)

@@ -69,6 +69,7 @@ fn tell_entry(
 ) -> Result<u64, Memory>
     requires has { has_place net.now.plan (Customer port) ≡ true }
     requires grown { HasGrown net.now.rec (Customer port) }
+    requires kept { net.now.is_kept ≡ true }
     ensures { IfOk result (λ number. (text : List ℕ) × (string_bytes out.new ≡ string_bytes out.old ++ text)
         × IsEntry plan.now port number net.now text) }
 {
@@ -88,7 +89,7 @@ fn finish(out: &mut String, plan: &Plan, net: &mut Net) -> Result<(), DriveFault
 {
     match drain(net, plan, MOST_OTHERS) {
         Ok(others) => Ok(put_others(out, others)?),
-        Err(fault) => Err(fault_in(net, plan, fault)),
+        Err(fault) => Err(fault_in(net, fault)),
     }
 }
 
@@ -126,6 +127,7 @@ fn follow(
 ) -> Result<Fate, DriveFault>
     requires sound { IsSound plan.now }
     requires plan { net.old.plan ≡ plan.now }
+    requires kept { net.old.is_kept ≡ true }
     requires has { has_place net.old.plan (Customer port) ≡ true }
     requires grown { HasGrown net.old.rec (Customer port) }
     ensures plan { net.new.plan ≡ plan.now }
@@ -149,6 +151,7 @@ pub(crate) fn trace_frame(
 ) -> Result<Fate, DriveFault>
     requires sound { IsSound plan.now }
     requires plan { net.old.plan ≡ plan.now }
+    requires kept { net.old.is_kept ≡ true }
     ensures plan { net.new.plan ≡ plan.now }
     ensures ok { IfOk result (λ fate. (text : List ℕ) × (string_bytes out.new ≡ string_bytes out.old ++ text)
         × AnswersFrame plan.now port frame fate net.old net.new text) }
@@ -161,7 +164,7 @@ pub(crate) fn trace_frame(
             Ok(Fate::Ended)
         }
         Err(NetFault::NoSuch) => Ok(Fate::NoPort),
-        Err(NetFault::StepLimit) => Err(fault_in(net, plan, DriveFault::Steps)),
+        Err(NetFault::StepLimit) => Err(fault_in(net, DriveFault::Steps)),
         Err(NetFault::Memory) => Err(DriveFault::Memory),
     }
 }

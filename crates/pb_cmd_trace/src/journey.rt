@@ -1,6 +1,6 @@
 //! The traces of several frames, one after the other.
 
-ghost use Rattle.std.specs.Prelude.{◌≡◌, ◌++◌, List, ℕ, string_bytes, IfOk, IfErr};
+ghost use Rattle.std.specs.Prelude.{◌≡◌, ◌++◌, List, ℕ, true, string_bytes, IfOk, IfErr};
 ghost use Rattle.pb_converge.specs.Drives.{IsCaused};
 ghost use Rattle.pb_lan.specs.Plans.{IsSound};
 ghost use Rattle.pb_cmd_trace.specs.Stories.{AnswersEntry, HasJourneyed};
@@ -36,6 +36,7 @@ fn trace_entry(
 ) -> Result<Fate, DriveFault>
     requires sound { IsSound plan.now }
     requires plan { net.old.plan ≡ plan.now }
+    requires kept { net.old.is_kept ≡ true }
     ensures plan { net.new.plan ≡ plan.now }
     ensures ok { IfOk result (λ fate. (text : List ℕ) × (string_bytes out.new ≡ string_bytes out.old ++ text)
         × AnswersEntry plan.now entry.now fate net.old net.new text) }
@@ -58,6 +59,7 @@ pub(crate) fn travel(
 ) -> Result<Journey, DriveFault>
     requires sound { IsSound plan.now }
     requires plan { net.old.plan ≡ plan.now }
+    requires kept { net.old.is_kept ≡ true }
     ensures plan { net.new.plan ≡ plan.now }
     ensures ok { IfOk result (λ journey. (text : List ℕ) × (string_bytes out.new ≡ string_bytes out.old ++ text)
         × HasJourneyed plan.now entries.now journey net.old net.new text) }

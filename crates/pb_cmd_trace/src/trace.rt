@@ -4,7 +4,7 @@ ghost use Rattle.std.specs.Prelude.{◌≡◌, ◌≢◌, ◌++◌, List, ℕ, t
 ghost use Rattle.std.specs.Io.KnownBytes.{Appends, Keeps};
 ghost use Rattle.pb_converge.specs.Drives.{IsCaused, ReachesLimit};
 ghost use Rattle.pb_converge.specs.Enough.{HasEnoughMemory};
-ghost use Rattle.pb_converge.specs.Falls.{fresh};
+ghost use Rattle.pb_converge.specs.Falls.{fresh_by};
 ghost use Rattle.pb_lan.specs.Events.{has_place};
 ghost use Rattle.pb_lan.specs.Plans.{IsSound};
 ghost use Rattle.pb_lan.specs.Records.{IsLawfulRecord};
@@ -18,7 +18,7 @@ use crate::journey::{Journey, travel};
 use crate::rests::begin;
 use crate::round::{FrameId, put_round};
 use crate::summary::put_summary;
-use pb_converge::{DriveFault, check_memory, disables, fault_of, fresh};
+use pb_converge::{DriveFault, check_memory, disables, fault_of};
 use pb_frame::Memory;
 use pb_lan::{Place, Plan};
 use pb_messages::{CommandFault, write_whole};
@@ -38,6 +38,7 @@ fn put_end(
 ) -> Result<(), Memory>
     requires sound { IsSound plan.now }
     requires plan { net.plan ≡ plan.now }
+    requires kept { net.is_kept ≡ true }
     ensures text { OnOk result (string_bytes out.new ≡ string_bytes out.old ++ end_lines plan.now net.rec round) }
     ensures lawful { OnOk result (IsLawfulRecord spanning_tree plan.now net.rec) }
     ensures enough { OnOk result (HasEnoughMemory net.rec) }
@@ -51,6 +52,7 @@ fn put_end(
 
 /// Shows that the record of a network with customer ports is lawful, and does nothing.
 fn steps_are_lawful(net: &Net)
+    requires { net.now.is_kept ≡ true }
     ensures { has_place net.now.plan (Customer 1) ≡ true → IsLawfulRecord spanning_tree net.now.plan net.now.rec }
 {
     let first = Place::Customer(1);
@@ -69,6 +71,7 @@ fn put_stories(
 ) -> Result<TraceEnd, DriveFault>
     requires sound { IsSound plan.now }
     requires plan { net.plan ≡ plan.now }
+    requires kept { net.is_kept ≡ true }
     ensures ok { IfOk result (λ end. (text : List ℕ) × (string_bytes out.new ≡ string_bytes out.old ++ text)
         × EndsTrace plan.now asked.now end net text) }
     ensures err { IfErr result (λ fault. IsCaused 1000000 fault net) }
@@ -85,6 +88,14 @@ fn put_stories(
     }
 }
 
+/// Returns the network of a plan, in which no place has taken a step. It keeps its steps.
+fn kept(alloc: Global, plan: &Plan) -> Result<Net, Memory>
+    requires { IsSound plan.now }
+    ensures { IfOk result (λ net. net ≡ fresh_by true plan.now) }
+{
+    Net::new(alloc, plan.clone()?)
+}
+
 /// Disables what `asked.downs` names, and appends the traces of frames in the network of a plan.
 fn put_trace(
     alloc: Global,
@@ -95,9 +106,9 @@ fn put_trace(
     requires { IsSound plan.now }
     ensures ok { IfOk result (λ end. (text : List ℕ) × (string_bytes out.new ≡ string_bytes out.old ++ text)
         × AnswersTrace plan.now asked.now end text) }
-    ensures err { IfErr result (λ fault. IsCaused 1000000 fault (fresh plan.now)) }
+    ensures err { IfErr result (λ fault. IsCaused 1000000 fault (fresh_by true plan.now)) }
 {
-    let mut net = fresh(alloc, plan)?;
+    let mut net = kept(alloc, plan)?;
     match disables(alloc, &mut net, plan, asked.downs)? {
         Some(fault) => Ok(TraceEnd::NoDown(fault)),
         None => put_stories(alloc, out, plan, net, asked),
@@ -115,7 +126,7 @@ fn write_trace<W: Write>(
     ensures ok { IfOk result (λ end. HasTraced plan.now asked.now end (W.contents writer.old)
         (W.contents writer.new)) }
     ensures kinds { IfErr result (λ e. e ≢ CommandFault.Read) }
-    ensures steps { IfErr result (λ e. e ≡ CommandFault.Steps → ReachesLimit 1000000 (fresh plan.now)) }
+    ensures steps { IfErr result (λ e. e ≡ CommandFault.Steps → ReachesLimit 1000000 (fresh_by true plan.now)) }
     ensures none { IfErr result (λ e. e ≢ CommandFault.Write → Keeps (W.contents writer.old) (W.contents writer.new)) }
 {
     let mut out = String::new(alloc);

@@ -38,6 +38,7 @@ pub(crate) enum Course {
 pub(crate) fn newest(net: &Net, place: Place) -> (&[Step], &Step)
     requires has { has_place net.now.plan place ≡ true }
     requires grown { HasGrown net.now.rec place }
+    requires kept { net.now.is_kept ≡ true }
     ensures lawful { IsLawfulRecord spanning_tree net.now.plan net.now.rec }
     ensures steps { result.0.now ≡ steps_at net.now.rec place }
     ensures newest { newest_at net.now.rec place ≡ Some result.1.now }
@@ -61,6 +62,7 @@ fn go_on(
 ) -> Result<bool, DriveFault>
     requires sound { IsSound plan.now }
     requires plan { net.old.plan ≡ plan.now }
+    requires kept { net.old.is_kept ≡ true }
     ensures plan { net.new.plan ≡ plan.now }
     ensures ok { IfOk result (λ went. GoesOn went plan.now onward net.old net.new todo.old.items todo.new.items
         (string_bytes out.old) (string_bytes out.new)) }
@@ -74,7 +76,7 @@ fn go_on(
             Ok(true)
         }
         Ok(Did::Idle) | Err(NetFault::NoSuch) => Ok(false),
-        Err(NetFault::StepLimit) => Err(fault_in(net, plan, DriveFault::Steps)),
+        Err(NetFault::StepLimit) => Err(fault_in(net, DriveFault::Steps)),
         Err(NetFault::Memory) => Err(DriveFault::Memory),
     }
 }
@@ -89,6 +91,7 @@ fn walk_on(
 ) -> Result<Course, DriveFault>
     requires sound { IsSound plan.now }
     requires plan { net.old.plan ≡ plan.now }
+    requires kept { net.old.is_kept ≡ true }
     ensures plan { net.new.plan ≡ plan.now }
     ensures ok { IfOk result (λ course. (text : List ℕ) × (string_bytes out.new ≡ string_bytes out.old ++ text)
         × HasWalked plan.now todo.old.items course net.old net.new text) }
@@ -126,6 +129,7 @@ pub(crate) fn walk(
 ) -> Result<Course, DriveFault>
     requires sound { IsSound plan.now }
     requires plan { net.old.plan ≡ plan.now }
+    requires kept { net.old.is_kept ≡ true }
     ensures plan { net.new.plan ≡ plan.now }
     ensures ok { IfOk result (λ course. (text : List ℕ) × (string_bytes out.new ≡ string_bytes out.old ++ text)
         × HasWalked plan.now (Feed port ∷ []) course net.old net.new text) }

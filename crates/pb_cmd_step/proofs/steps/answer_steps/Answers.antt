@@ -15,6 +15,7 @@ loop-number-init g c = record {
       (held c.args.lines.now) (g.W.Write.contents c.args.writer.now) c.args.net.now c.requires.held c.requires.fresh;
   limit = c.requires.lines;
   plan = ap (λ n. n.plan) c.requires.fresh;
+  kept = ap (λ n. n.is_kept) c.requires.fresh;
 }
 
 pub loop-number-preserved : goal.loop-number-preserved
@@ -40,6 +41,7 @@ loop-number-preserved g c =
           c.loop-number.invariant.progress gives a (rw e at w);
       limit = c.next.ensures.limit ∙ c.loop-number.invariant.limit;
       plan = c.in_ok-answer_line.ensures.plan;
+      kept = c.in_ok-answer_line.ensures.kept;
     }
 
 pub returns-in_err-found-clause-part : goal.returns-in_err-found-clause-part

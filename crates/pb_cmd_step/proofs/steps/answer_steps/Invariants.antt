@@ -1,4 +1,4 @@
-use Rattle.std.proofs.Common.{◌≡◌}
+use Rattle.std.proofs.Common.{◌≡◌, true}
 use Rattle.pb_lines.specs.Reader.{held, limit_of}
 use Rattle.pb_cmd_step.specs.Modes.{StepsProgress, noted}
 use Rattle.pb_cmd_step.proofs.steps.answer_steps.Given as goal
@@ -10,4 +10,5 @@ invariant-loop-number g l = record {
       (g.W.Write.contents l.fn.writer) (g.W.Write.contents l.writer) (noted l.net l.notes);
   limit : limit_of l.lines ≡ l.limit;
   plan : l.net.plan ≡ l.names.plan.now;
+  kept : l.net.is_kept ≡ true;
 }

@@ -53,7 +53,7 @@ returns-in-Ok-clause-ok g c =
     c.in_ok-names.ensures
     c.in_ok-answer_steps.ensures.ok in
     let lawful = subst (λ p. IsLawfulRecord spanning_tree p c.finish-rec.result)
-    (c.in_ok-answer_steps.ensures.plan ∙ c.in_ok-names.ensures) c.finish-rec.ensures.lawful in
+    (c.in_ok-answer_steps.ensures.net.0 ∙ c.in_ok-names.ensures) c.finish-rec.ensures.lawful in
     on_ok_weaker c.write_report.result
     (λ r. reported c.args.mode c.args.limit plan c.args.notes.now input before now
     (g.W.Write.contents c.write_report.new.writer) last
@@ -109,7 +109,7 @@ returns-clause-part g c =
     c.in_ok-names.ensures
     c.in_ok-answer_steps.ensures.ok in
     let lawful = subst (λ p. IsLawfulRecord spanning_tree p c.finish-rec.result)
-    (c.in_ok-answer_steps.ensures.plan ∙ c.in_ok-names.ensures) c.finish-rec.ensures.lawful in
+    (c.in_ok-answer_steps.ensures.net.0 ∙ c.in_ok-names.ensures) c.finish-rec.ensures.lawful in
     let told = c.in_ok-write_record-in-Err.ensures.ok in
     λ ne. part_reported Memory c.args.mode c.args.limit plan c.args.notes.now input before now
     (g.W.Write.contents c.write_record.new.writer) last

@@ -1,4 +1,4 @@
-use Rattle.std.proofs.Common.{◌∷◌, []}
+use Rattle.std.proofs.Common.{◌∷◌, [], ◌∙◌}
 use Rattle.std.proofs.lemmas.Result.{IfErr-weaker, IfOk-weaker}
 use Rattle.pb_converge.proofs.DriveLemmas.{done-one}
 use Rattle.pb_converge.proofs.LimitLemmas.{caused-full, caused-later, caused-told}
@@ -45,3 +45,8 @@ returns-in-Err-StepLimit-clause-err c =
     let h = rw c.in-Err-StepLimit.field-0-is at c.in-Err-StepLimit.ensures in
     caused-told 1000000 Steps c.fault_in.result old new c.fault_in.ensures.fault c.fault_in.ensures.enough
     (caused-full 1000000 (Poll c.args.port c.args.frame) old new h)
+
+pub follow-requires-clause-kept : goal.follow-requires-clause-kept
+follow-requires-clause-kept c =
+    let h = rw c.in-Ok-Done.field-0-is at c.in-Ok-Done.ensures in
+    h.4 ∙ c.requires.kept

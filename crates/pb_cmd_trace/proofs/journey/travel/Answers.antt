@@ -6,6 +6,7 @@ use Rattle.pb_frame.proofs.Things.{here_is}
 use Rattle.pb_names.specs.Numbers.{port_named}
 use Rattle.pb_cmd_trace.proofs.DoneLemmas.{stories-run}
 use Rattle.pb_cmd_trace.proofs.StoryLemmas.{stories-more, round_told, entry_lacks_port, entry_is_none}
+use Rattle.pb_converge.proofs.DriveLemmas.{done-kept}
 use Rattle.pb_cmd_trace.proofs.journey.travel.Goals as goal
 
 pub returns-in-GoesRound-clause-ok : goal.returns-in-GoesRound-clause-ok
@@ -74,3 +75,11 @@ returns-in_err-trace_entry-clause-err c =
     let caused = caused-later 1000000 c.in_err-trace_entry.field-0.0 run.0 old mid run.1
     c.in_err-trace_entry.ensures.err in
     rw p.1 (subst (λ e. IsCaused 1000000 e old) (sym p.2) caused)
+
+pub trace_entry-requires-clause-kept : goal.trace_entry-requires-clause-kept
+trace_entry-requires-clause-kept c =
+    let old = c.args.net.now in
+    let mid = c.loop-index.net in
+    let before = c.loop-index.invariant.told in
+    let run = stories-run c.args.plan.now (take c.loop-index.index c.args.entries.now) old mid before.0 before.2 in
+    done-kept old mid run.0 run.1 ∙ c.requires.kept

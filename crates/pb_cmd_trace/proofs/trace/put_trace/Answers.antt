@@ -1,16 +1,19 @@
-use Rattle.std.proofs.Common.{[], string_bytes, subst, sym, append-nil}
+use Rattle.std.proofs.Common.{true, [], string_bytes, subst, sym, append-nil, ap, ◌∙◌}
 use Rattle.std.proofs.lemmas.Result.{err_from_is_err_and, IfErr-weaker, IfOk-weaker}
 use Rattle.pb_converge.proofs.DriveLemmas.{done-plan}
+use Rattle.pb_converge.proofs.FallLemmas.{fallen_from}
 use Rattle.pb_converge.proofs.LimitLemmas.{caused-broken, caused-later}
 use Rattle.pb_converge.specs.Drives.{HasBroken, IsCaused}
-use Rattle.pb_converge.specs.Falls.{fresh, downs}
+use Rattle.pb_converge.specs.Falls.{fresh_by, downs}
 use Rattle.pb_cmd_trace.proofs.StoryLemmas.{fallen_trace}
 use Rattle.pb_cmd_trace.proofs.trace.put_trace.Goals as goal
 
 pub put_stories-requires-clause-plan : goal.put_stories-requires-clause-plan
 put_stories-requires-clause-plan c =
     let fallen = rw c.in-None.is at c.in_ok-fault.ensures.falls in
-    done-plan (fresh c.args.plan.now) c.disables.new.net (downs c.args.plan.now c.args.asked.now.downs.now) fallen.done
+    done-plan (fresh_by true c.args.plan.now) c.disables.new.net (downs c.args.plan.now c.args.asked.now.downs.now)
+    (fallen_from c.args.plan.now c.args.asked.now.downs.now c.disables.new.net c.in_ok-net.ensures
+    c.in_ok-fault.ensures.kept fallen)
 
 pub returns-in-Some-clause-ok : goal.returns-in-Some-clause-ok
 returns-in-Some-clause-ok c =
@@ -33,13 +36,19 @@ returns-in_err-fault-clause-err c =
     let new = c.disables.new.net in
     let fault = c.in_err-fault.field-0.0 in
     let b = subst (λ net. HasBroken fault net new) c.in_ok-net.ensures c.in_err-fault.ensures.err in
-    let caused = caused-broken 1000000 fault (fresh plan) new c.in_err-fault.ensures.enough b in
-    rw p.1 (subst (λ e. IsCaused 1000000 e (fresh plan)) (sym p.2) caused)
+    let caused = caused-broken 1000000 fault (fresh_by true plan) new c.in_err-fault.ensures.enough b in
+    rw p.1 (subst (λ e. IsCaused 1000000 e (fresh_by true plan)) (sym p.2) caused)
 
 pub returns-in-None-clause-err : goal.returns-in-None-clause-err
 returns-in-None-clause-err c =
     let plan = c.args.plan.now in
     let fallen = rw c.in-None.is at c.in_ok-fault.ensures.falls in
+    let done = fallen_from plan c.args.asked.now.downs.now c.disables.new.net c.in_ok-net.ensures
+    c.in_ok-fault.ensures.kept fallen in
     IfErr-weaker c.put_stories.result _ _
-    (λ fault h. caused-later 1000000 fault (downs plan c.args.asked.now.downs.now) (fresh plan) c.disables.new.net
-    fallen.done h) c.put_stories.ensures.err
+    (λ fault h. caused-later 1000000 fault (downs plan c.args.asked.now.downs.now) (fresh_by true plan)
+    c.disables.new.net
+    done h) c.put_stories.ensures.err
+
+pub put_stories-requires-clause-kept : goal.put_stories-requires-clause-kept
+put_stories-requires-clause-kept c = c.in_ok-fault.ensures.kept ∙ ap (λ n. n.is_kept) c.in_ok-net.ensures

@@ -1,10 +1,11 @@
-use Rattle.std.proofs.Common.{◌≡◌, string_bytes, arith, subst, sym}
+use Rattle.std.proofs.Common.{◌≡◌, string_bytes, arith, subst, sym, ◌∙◌}
 use Rattle.std.proofs.lemmas.Result.{err_from_is_err_and}
 use Rattle.pb_converge.proofs.LimitLemmas.{caused-later}
 use Rattle.pb_converge.specs.Drives.{IsCaused}
 use Rattle.pb_cmd_trace.specs.Walks.{GoesOn}
 use Rattle.pb_cmd_trace.proofs.DoneLemmas.{walks-run}
 use Rattle.pb_cmd_trace.proofs.WalkLemmas.{walks-more, walked-round}
+use Rattle.pb_converge.proofs.DriveLemmas.{done-kept}
 use Rattle.pb_cmd_trace.proofs.walk.walk_on.Goals as goal
 
 pub loop-preserved : goal.loop-preserved
@@ -41,3 +42,11 @@ returns-in_err-go_on-clause-err c =
     before.2 in
     let caused = caused-later 1000000 c.in_err-go_on.field-0.0 run.0 old c.loop.net run.1 c.in_err-go_on.ensures.err in
     rw p.1 (subst (λ e. IsCaused 1000000 e old) (sym p.2) caused)
+
+pub go_on-requires-clause-kept : goal.go_on-requires-clause-kept
+go_on-requires-clause-kept c =
+    let old = c.args.net.now in
+    let before = c.loop.invariant.walked in
+    let run = walks-run c.loop.counter c.args.plan.now c.args.todo.now.items old c.loop.todo.items c.loop.net before.0
+    before.2 in
+    done-kept old c.loop.net run.0 run.1 ∙ c.requires.kept
