@@ -4,6 +4,7 @@ mod asked;
 mod bench;
 mod classes;
 mod copies;
+mod counting;
 mod crossing;
 mod draft;
 mod draining;

@@ -104,12 +104,42 @@ fn seen(alloc: Global, frame: &'static [u8]) -> Result<(Came, bool, bool), Memor
     Ok((came, has_left, tells_short(&net, 1) || tells_short(&net, 2)))
 }
 
+/// Returns the result of a frame's events in a network that only counts its steps, whether it left, and whether the
+/// counts report a failed allocation.
+fn counted(alloc: Global, frame: &'static [u8]) -> Result<(Came, bool, bool), Memory> {
+    let plan = plan_of(alloc, &JOINED)?;
+    if !plan_is_sound(&plan) {
+        return Ok((Came::Wrong, false, false));
+    }
+    let mut net = Net::counting(alloc, plan)?;
+    let came = all_come(&mut net, frame);
+    let tallies = net.tallies()?;
+    let has_left = match tallies.customers().get(1) {
+        Some(tally) => tally.left() == 1,
+        None => false,
+    };
+    Ok((came, has_left, tallies.lacked_memory()))
+}
+
 /// Shows, for each allocation that fails, that the event is done at the next try or that the bridge's step reports it:
 /// of a broadcast, and of a notice that is for no bridge.
 #[test]
 fn what_wants_memory_is_done_at_the_next_try(rt: HostRuntime) -> Result<(), Fail> {
     for frame in [BROADCAST, NOTICE] {
         let (came, has_left, is_short) = seen(rt.alloc(), frame)?;
+        if came == Came::Memory {
+            return Err(Fail::from(Memory));
+        }
+        assert!(rt; (came == Came::Done && has_left) || (came == Came::Idle && is_short));
+    }
+    Ok(())
+}
+
+/// Shows the same of a network that only counts its steps: the counts report what was dropped.
+#[test]
+fn what_wants_memory_is_counted(rt: HostRuntime) -> Result<(), Fail> {
+    for frame in [BROADCAST, NOTICE] {
+        let (came, has_left, is_short) = counted(rt.alloc(), frame)?;
         if came == Came::Memory {
             return Err(Fail::from(Memory));
         }

@@ -7,9 +7,9 @@ use pb_lan::{Item, Learnt, NoRoom, Outcome, Place, Reason, Step};
 use pb_net::Net;
 use pb_rstp::Role;
 
-/// Returns the steps of a place, if the plan has it.
+/// Returns the steps of a place, if the plan has it and the network keeps them.
 fn steps(net: &Net, place: Place) -> Option<&[Step]> {
-    if net.has_place(place) {
+    if net.has_place(place) && net.keeps_steps() {
         Some(net.steps(place))
     } else {
         None

@@ -95,8 +95,9 @@ fn record_of(rt: &impl Abort, alloc: Global, draft: &Draft, rows: &[Row]) -> Res
     assert!(rt; plan_is_sound(&plan));
     let mut net = Net::new(alloc, plan)?;
     let outcome = all_hold(rt, alloc, &mut net, draft, rows);
-    let record = net.finish();
     outcome?;
+    assert!(rt; net.keeps_steps());
+    let record = net.finish();
     Ok(record)
 }
 
