@@ -1,11 +1,14 @@
 -- Plans in files, and their ports (used by the functions of `network.rt`).
-use Rattle.std.proofs.Common.{◌≡◌, ℕ, Bool, refl, List, [], ◌∷◌, ◌++◌, length, map, ap, sym, ◌∙◌}
+use Rattle.std.proofs.Common.{◌≡◌, ℕ, zero, suc, Bool, refl, List, [], ◌∷◌, ◌++◌, length, map, ap, sym, subst, ◌∙◌}
 use Rattle.std.proofs.Common.{append-nil, arith, Ok, Err, IfOk}
 use Rattle.std.proofs.lemmas.Slice.Zip.{AllZip-long}
 use Rattle.std.specs.declared.result.Result.{Result}
+use Rattle.pb_lan.specs.Counts.{entered}
+use Rattle.pb_lan.specs.Records.{steps_of}
 use Rattle.pb_lan.specs.declared.plan.Plan.{Plan}
 use Rattle.pb_lan.specs.declared.step.Step.{Step}
-use Rattle.pb_run.specs.Runs.{Lists, ArePortsKept, frames_of}
+use Rattle.pb_run.specs.Runs.{ArePortsKept, frames_of, last_of, port_of}
+use Rattle.pb_workers.specs.Ports.{PortFrames, in_front, IsEnded}
 use Rattle.pb_workers.specs.declared.access.Last.{Last}
 use Rattle.pb_service.specs.PlanFiles.{Tells, IsPlanOf}
 use Rattle.pb_service.specs.declared.port_spec.PortSpec.{PortSpec}
@@ -35,14 +38,24 @@ pub on_value : {A E : Type 0} {P Q : A → Type 0} (r : Result A E) → ((x : A)
 on_value (Ok x) f p = f x p
 on_value (Err e) f p = p
 
+scripts_there : (ports : List PortFrames) (number : ℕ)
+    → frames_of (map (λ p. p.script) ports) number ≡ (port_of ports number).script
+scripts_there ports zero = refl
+scripts_there [] (suc r) = refl
+scripts_there (p ∷ ports) (suc zero) = refl
+scripts_there (p ∷ ports) (suc (suc r)) = scripts_there ports (suc r)
+
 -- the frames that entered at ports which had the listed frames
-pub are_scripted : (specs : List PortSpec) (before after : Lists) (customers : List (List Step)) (lasts : List Last)
-    → before.scripts ≡ map script_in specs → ArePortsKept before after customers lasts
+pub are_scripted : (specs : List PortSpec) (before after : List PortFrames) (customers : List (List Step))
+    (lasts : List Last) → map (λ p. p.script) before ≡ map script_in specs → ArePortsKept before after customers lasts
     → AreScripted specs customers lasts
 are_scripted specs before after customers lasts same kept = record {
-  rest = after.scripts;
-  begun = λ number. ap (λ scripts. frames_of scripts number) (sym same) ∙ kept.script number;
-  used_up = kept.used_up;
+  rest = map (λ p. p.script) after;
+  begun = λ number. ap (λ scripts. frames_of scripts number) (sym same) ∙ scripts_there before number
+      ∙ (kept.kept number).script
+      ∙ ap (in_front (entered (steps_of customers number))) (sym (scripts_there after number));
+  used_up = λ number. subst (IsEnded (last_of lasts number)) (sym (scripts_there after number))
+      (kept.kept number).used_up;
 }
 
 -- all things have moved if none remains, and what is compared of them is the same

@@ -22,7 +22,11 @@ pub(crate) enum AnyPort<M, C, S, T> {
 impl<M: Port, C: Port, S: Port, T: Port> Port for AnyPort<M, C, S, T> {
     ghost script = { of_any M.script C.script S.script T.script };
 
+    ghost given = { of_any M.given C.given S.given T.given };
+
     ghost tally = { of_any M.tally C.tally S.tally T.tally };
+
+    ghost keeps_sent = { of_any M.keeps_sent C.keeps_sent S.keeps_sent T.keeps_sent };
 
     ghost waiting = { of_any M.waiting C.waiting S.waiting T.waiting };
 

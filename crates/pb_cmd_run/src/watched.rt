@@ -21,7 +21,11 @@ pub(crate) struct Watched<P: Port> {
 impl<P: Port> Port for Watched<P> {
     ghost script = { λ w. P.script w.port };
 
+    ghost given = { λ w. P.given w.port };
+
     ghost tally = { λ w. P.tally w.port };
+
+    ghost keeps_sent = { λ w. P.keeps_sent w.port };
 
     ghost waiting = { λ w. P.waiting w.port };
 

@@ -1,7 +1,9 @@
 use Rattle.std.proofs.Common.{refl, ap, ◌∙◌, arith, rules}
 use Rattle.std.proofs.lemmas.Grind.{common_steps}
 use denote.Param.Object.{read_made}
+use Rattle.std.proofs.lemmas.Simd.{map-map}
 use Rattle.std.specs.Vec.Iter.{into_iter_items}
+use Rattle.pb_workers.specs.Ports.{PortFrames, port_frames}
 use Rattle.pb_cmd_run.specs.Scripted.{script_at}
 use Rattle.pb_run_ports.proofs.MoveLemmas.{moved_over}
 use Rattle.pb_cmd_run.proofs.NetworkLemmas.{on_value, are_scripted, all_moved}
@@ -28,6 +30,8 @@ returns-in-Ok-clause-ok g c =
     (λ w. script_at w.port) (into_iter_items c.loop-port.port-iterator)
     (into_iter_items c.into_iter-port-iterator.result) c.args.ports.items c.loop-port.invariant.scripts (search rules)
     (search rules) in
+    let scripts = map-map (λ (p : PortFrames). p.script) (λ b. port_frames (own-1.entry b.vtable).1 b.value)
+    c.loop-port.held.items in
     on_value c.tell_run.result (λ status told specs same. record {
       rec = ran.counts;
       lawful = run.steps.lawful;
@@ -35,7 +39,7 @@ returns-in-Ok-clause-ok g c =
       whole = c.in-Ok.ensures.lossless;
       lasts = ran.last.items;
       last_count = grind (arith, common_steps);
-      scripted = are_scripted specs _ _ ran.counts.customers ran.last.items (given ∙ same) run.ports;
+      scripted = are_scripted specs _ _ ran.counts.customers ran.last.items (scripts ∙ given ∙ same) run.ports;
       ended = ran.ended;
       tells_ended = run.ended;
       settled = ran.settled;
