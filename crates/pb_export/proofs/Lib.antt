@@ -3,3 +3,5 @@ pub mod RowLemmas
 pub mod DepthLemmas
 pub mod ValueLemmas
 mod HeadLemmas
+pub mod FitLemmas
+pub mod PartLemmas

@@ -2,7 +2,7 @@
 use Rattle.std.proofs.Common.{◌≡◌, ℕ, zero, suc, List, [], ◌∷◌, ◌++◌, flat_map, refl, sym, ap, ◌∙◌, append_assoc}
 use Rattle.std.proofs.Common.{append-nil}
 use Rattle.std.proofs.lemmas.List.{flat_map_more}
-use Rattle.pb_export.specs.Rows.{spaces}
+use Rattle.pb_export.specs.Fitting.{spaces}
 
 -- one more element is read
 pub text_more : {X : Type 0} (f : X → List ℕ) (xs : List X) (x : X) (text rest later : List ℕ) → text ≡ flat_map f xs

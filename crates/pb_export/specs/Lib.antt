@@ -1,3 +1,4 @@
+pub mod Fitting
 pub mod Rows
 pub mod Documents
 pub mod Heads

@@ -1,8 +1,10 @@
 -- The rows of a report, and the text that they give back.
-use Rattle.std.specs.Prelude.{Vec, ◌≡◌, ◌⊎◌, ℕ, zero, suc, List, [], ◌∷◌, ◌++◌, map, flat_map, codes, Contains, All, ⊤}
+use Rattle.std.specs.Prelude.{Vec, ◌≡◌, ◌⊎◌, ℕ, List, [], ◌∷◌, ◌++◌}
+use Rattle.std.specs.Prelude.{map, flat_map, codes, Contains, All, ⊤}
 use Rattle.std.specs.Fmt.{decimal}
 use Rattle.std.specs.declared.alloc.Global.{Global}
 use denote.Ref.{Bor}
+use Rattle.pb_export.specs.Fitting.{spaces, Lacks, FitsTemplate}
 use Rattle.pb_export.specs.declared.templates.Kind.{Kind}
 use Rattle.pb_export.specs.declared.templates.Kind.TheVariants as kind
 use Rattle.pb_export.specs.declared.templates.Choice.{Choice}
@@ -13,11 +15,6 @@ use Rattle.pb_export.specs.declared.rows.Field.{Field}
 use Rattle.pb_export.specs.declared.rows.Field.TheVariants.{Text, Number, Depth, Words, Numbers, Groups, Chosen}
 use Rattle.pb_export.specs.declared.rows.Filled.{Filled}
 use Rattle.pb_export.specs.declared.rows.Row.{Row}
-
--- so many pairs of spaces
-abbrev pub spaces : ℕ → List ℕ
-spaces zero = []
-spaces (suc n) = 32 ∷ 32 ∷ spaces n
 
 -- words, each after a space
 abbrev pub words_text : List (Bor (List ℕ)) → List ℕ
@@ -90,12 +87,22 @@ pub record IsRow (template : Template) (line : List ℕ) (row : Row) : Type 0 wh
   pub filled : AreFilled template.slots.now row.fields.items
   pub text_is : line ≡ row_text row
 
--- the row has one of these templates, and each slot holds a value of its kind
+-- the template is the first of these that the line fits
+pub record IsFirstOf (templates : List Template) (template : Template) (line : List ℕ) : Type 0 where
+  pub earlier : List Template
+  pub later : List Template
+  pub are : templates ≡ earlier ++ template ∷ later
+  pub none : All (λ t. ¬ (FitsTemplate t line)) earlier
+  pub fits : FitsTemplate template line
+
+-- the row is one line, has the first of these templates that the line fits, and each slot holds a value of its kind
 pub record IsRowOf (templates : List Template) (row : Row) : Type 0 where
   pub template_is : Contains templates row.template
+  pub first : IsFirstOf templates row.template (row_text row)
+  pub line : Lacks (10 ∷ []) (row_text row)
   pub filled : AreFilled row.template.slots.now row.fields.items
 
--- the rows are the lines of a text, each read by one of these templates
+-- the rows are the lines of a text, each read by the first of these templates that it fits
 pub record AreRows (templates : List Template) (text : List ℕ) (rows : List Row) : Type 0 where
   pub are : All (IsRowOf templates) rows
   pub text_is : text ≡ report_text rows

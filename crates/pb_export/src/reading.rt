@@ -1,6 +1,9 @@
 //! Templates read lines.
 
-ghost use Rattle.std.specs.Prelude.{◌≡◌, ◌++◌, List, map, Contains, All, IfOk, IfSome};
+ghost use Rattle.std.specs.Prelude.{◌≡◌, ◌↔◌, ◌++◌, ◌∷◌, [], ℕ, List, map};
+ghost use Rattle.std.specs.Prelude.{Contains, All, IfOk, IfSome, IsSome, MatchOption};
+ghost use Rattle.pb_export.specs.Fitting.{Lacks, EndsAt, IsAfterEnding, IsAfterChoice, IsAfterSingle, IsAfterWords};
+ghost use Rattle.pb_export.specs.Fitting.{IsAfterNumbers, IsAfterGroups, IsAfterValue, FitSlots, FitsTemplate};
 ghost use Rattle.pb_export.specs.Rows.{field_text, fields_text, filled_text, report_text, row_text, Fits, IsFilled};
 ghost use Rattle.pb_export.specs.Rows.{IsEnding, AreFilled, IsRow, IsRowOf, AreRows};
 
@@ -15,6 +18,7 @@ use std::alloc::{AllocError, Global};
 fn choice_at<'a>(choices: &[Choice], text: &'a str) -> Option<(Choice, &'a str)>
     ensures text { IfSome result (λ parts. text.now ≡ parts.0.text.now ++ parts.1.now) }
     ensures among { IfSome result (λ parts. Contains choices.now parts.0) }
+    ensures first { EndsAt (IsAfterChoice choices.now text.now) result }
 {
     for choice in choices {
         if let Some(rest) = behind(text, choice.text) {
@@ -28,6 +32,7 @@ fn choice_at<'a>(choices: &[Choice], text: &'a str) -> Option<(Choice, &'a str)>
 fn ending_at(text: &str) -> (Choice, &str)
     ensures text { text.now ≡ result.0.text.now ++ result.1.now }
     ensures ending { IsEnding result.0 }
+    ensures whole { IsAfterEnding text.now result.1.now }
 {
     let says = Said::Nothing;
     match behind(text, "s") {
@@ -40,6 +45,7 @@ fn ending_at(text: &str) -> (Choice, &str)
 fn plain_field<'a>(slot: &Slot, text: &'a str) -> Option<(Field<'a>, &'a str)>
     ensures text { IfSome result (λ parts. text.now ≡ field_text parts.0 ++ parts.1.now) }
     ensures fits { IfSome result (λ parts. Fits slot.now.kind parts.0) }
+    ensures whole { EndsAt (IsAfterSingle slot.now.kind slot.now.until.now text.now) result }
 {
     match slot.kind {
         Kind::Text => {
@@ -72,8 +78,9 @@ fn words_field<'a>(
     text: &'a str,
     until: &str,
 ) -> Result<Option<(Field<'a>, &'a str)>, AllocError>
-    ensures { IfOk result (λ o. IfSome o (λ parts. (text.now ≡ field_text parts.0 ++ parts.1.now)
+    ensures field { IfOk result (λ o. IfSome o (λ parts. (text.now ≡ field_text parts.0 ++ parts.1.now)
         × Fits Kind.Words parts.0)) }
+    ensures whole { IfOk result (EndsAt (IsAfterWords until.now text.now)) }
 {
     let Some((front, rest)) = before(text, until) else {
         return Ok(None);
@@ -89,8 +96,9 @@ fn numbers_field<'a>(
     alloc: Global,
     text: &'a str,
 ) -> Result<Option<(Field<'a>, &'a str)>, AllocError>
-    ensures { IfOk result (λ o. IfSome o (λ parts. (text.now ≡ field_text parts.0 ++ parts.1.now)
+    ensures field { IfOk result (λ o. IfSome o (λ parts. (text.now ≡ field_text parts.0 ++ parts.1.now)
         × Fits Kind.Numbers parts.0)) }
+    ensures whole { IfOk result (EndsAt (IsAfterNumbers text.now)) }
 {
     let (numbers, rest) = numbers_at(alloc, text)?;
     Ok(Some((Field::Numbers(numbers), rest)))
@@ -101,8 +109,9 @@ fn groups_field<'a>(
     alloc: Global,
     text: &'a str,
 ) -> Result<Option<(Field<'a>, &'a str)>, AllocError>
-    ensures { IfOk result (λ o. IfSome o (λ parts. (text.now ≡ field_text parts.0 ++ parts.1.now)
+    ensures field { IfOk result (λ o. IfSome o (λ parts. (text.now ≡ field_text parts.0 ++ parts.1.now)
         × Fits Kind.Groups parts.0)) }
+    ensures whole { IfOk result (EndsAt (IsAfterGroups text.now)) }
 {
     match groups_in(alloc, text)? {
         Some((groups, last)) => Ok(Some((Field::Groups(groups, last), ""))),
@@ -117,8 +126,9 @@ fn field_at<'a>(
     slot: &Slot,
     text: &'a str,
 ) -> Result<Option<(Field<'a>, &'a str)>, AllocError>
-    ensures { IfOk result (λ o. IfSome o (λ parts. (text.now ≡ field_text parts.0 ++ parts.1.now)
+    ensures field { IfOk result (λ o. IfSome o (λ parts. (text.now ≡ field_text parts.0 ++ parts.1.now)
         × Fits slot.now.kind parts.0)) }
+    ensures whole { IfOk result (EndsAt (IsAfterValue slot.now.kind slot.now.until.now text.now)) }
 {
     match slot.kind {
         Kind::Words => words_field(alloc, text, slot.until),
@@ -136,8 +146,10 @@ fn filled_at<'a>(
     slot: &Slot,
     text: &'a str,
 ) -> Result<Option<(Filled<'a>, &'a str)>, AllocError>
-    ensures { IfOk result (λ o. IfSome o (λ parts. IsFilled slot.now parts.0
+    ensures filled { IfOk result (λ o. IfSome o (λ parts. IsFilled slot.now parts.0
         × (text.now ≡ filled_text parts.0 ++ parts.1.now))) }
+    ensures whole { IfOk result
+        (EndsAt (λ rest. IsAfterValue slot.now.kind slot.now.until.now text.now (slot.now.until.now ++ rest))) }
 {
     let Some((field, rest)) = field_at(alloc, slot, text)? else {
         return Ok(None);
@@ -154,8 +166,9 @@ fn fields_of<'a>(
     slots: &[Slot],
     text: &'a str,
 ) -> Result<Option<Vec<Filled<'a>>>, AllocError>
-    ensures { IfOk result (λ o. IfSome o (λ fields. AreFilled slots.now fields.items
+    ensures filled { IfOk result (λ o. IfSome o (λ fields. AreFilled slots.now fields.items
         × (text.now ≡ fields_text fields.items))) }
+    ensures whole { IfOk result (λ o. IsSome o ↔ FitSlots slots.now text.now) }
 {
     let mut fields = Vec::with_capacity(alloc, slots.len())?;
     let mut rest = text;
@@ -179,7 +192,8 @@ fn row_by<'a>(
     template: &Template,
     line: &'a str,
 ) -> Result<Option<Row<'a>>, AllocError>
-    ensures { IfOk result (λ o. IfSome o (IsRow template.now line.now)) }
+    ensures row { IfOk result (λ o. IfSome o (IsRow template.now line.now)) }
+    ensures whole { IfOk result (λ o. IsSome o ↔ FitsTemplate template.now line.now) }
 {
     let Some(rest) = behind(line, template.lead) else {
         return Ok(None);
@@ -199,7 +213,9 @@ fn row_of<'a>(
     templates: &[Template],
     line: &'a str,
 ) -> Result<Option<Row<'a>>, AllocError>
-    ensures { IfOk result (λ o. IfSome o (λ row. IsRowOf templates.now row × (line.now ≡ row_text row))) }
+    requires { Lacks (10 ∷ []) line.now }
+    ensures { IfOk result (λ o. MatchOption o (All (λ t. ¬ (FitsTemplate t line.now)) templates.now)
+        (λ row. IsRowOf templates.now row × (line.now ≡ row_text row))) }
 {
     for template in templates {
         if let Some(row) = row_by(alloc, template, line)? {

@@ -1,5 +1,5 @@
 use Rattle.std.proofs.Common.{◌++◌, List, ℕ, ap, ◌∙◌, add-one, rules}
-use Rattle.pb_export.specs.Rows.{spaces}
+use Rattle.pb_export.specs.Fitting.{spaces}
 use Rattle.pb_export.proofs.TextLemmas.{spaces_more}
 use Rattle.pb_export.proofs.parts.depth_at.Goals as goal
 

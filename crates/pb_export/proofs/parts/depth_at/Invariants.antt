@@ -1,5 +1,5 @@
 use Rattle.std.proofs.Common.{◌≡◌, ◌++◌}
-use Rattle.pb_export.specs.Rows.{spaces}
+use Rattle.pb_export.specs.Fitting.{spaces}
 use denote.Shadow.{shadow}
 use denote.Text.{Utf8}
 use Rattle.pb_export.proofs.parts.depth_at.Given as goal
