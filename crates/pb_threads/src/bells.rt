@@ -49,8 +49,8 @@ impl Bell {
         self.state.load(Ordering::SeqCst) == HELD_UP
     }
 
-    /// Sleeps until the bell rings, at most this long, if the worker is drowsy. Returns whether no bell rang. The worker
-    /// of a place that the gate watches sleeps in the gate.
+    /// Sleeps until the bell rings, at most this long, if the worker is drowsy. Returns whether no bell rang. The
+    /// worker of a place that the gate watches sleeps in the gate.
     fn sleep<R: Wait, G: Gate>(&self, rt: &R, gate: &G, place: Place, time: Duration) -> bool {
         let state = match self.state.load(Ordering::SeqCst) {
             AWAKE => return false,
@@ -82,8 +82,8 @@ pub struct Bells {
     customers: usize,
     /// The number of lanes.
     lanes: usize,
-    /// The indices of the workers beside each customer port, each lane, and each local port of each bridge: first that of
-    /// the place to which items go from there, then that of the place from which they come, if it is another one.
+    /// The indices of the workers beside each customer port, each lane, and each local port of each bridge: first that
+    /// of the place to which items go from there, then that of the place from which they come, if it is another one.
     beside: Vec<[usize; 2]>,
 }
 
@@ -176,8 +176,8 @@ impl Bells {
         }
     }
 
-    /// Makes the worker of a place drowsy, or held up if its place has an item for a ring that was full. Returns whether
-    /// it already was: no bell of it has rung since.
+    /// Makes the worker of a place drowsy, or held up if its place has an item for a ring that was full. Returns
+    /// whether it already was: no bell of it has rung since.
     pub(crate) fn nods(&self, place: Place, is_held_up: bool) -> bool {
         match self.bells.get(self.worker(place)) {
             Some(bell) => bell.nods(is_held_up),
@@ -192,7 +192,8 @@ impl Bells {
         }
     }
 
-    /// Sleeps until the bell of a place rings, at most this long, if its worker is drowsy. Returns whether no bell rang.
+    /// Sleeps until the bell of a place rings, at most this long, if its worker is drowsy. Returns whether no bell
+    /// rang.
     pub(crate) fn sleep<R: Wait, G: Gate>(
         &self,
         rt: &R,
@@ -222,8 +223,8 @@ impl Bells {
         }
     }
 
-    /// Returns the indices of the sleeping workers that may have something to do after a step of a customer port, a lane,
-    /// or a bridge at a local port: the one to which items go, and the one from which they come if it is held up.
+    /// Returns the indices of the sleeping workers that may have something to do after a step of a customer port, a
+    /// lane, or a bridge at a local port: the one to which items go, and the one from which they come if it is held up.
     pub(crate) fn called(&self, place: Place, port: u8) -> [Option<usize>; 2] {
         let Some([to, from]) = self.beside.get(self.row(place, port)) else {
             return [None, None];

@@ -32,11 +32,11 @@ pub enum Dropped {
     Nowhere,
 }
 
-/// A gate that is passed before each turn of a place. Mostly the place's own worker takes the turn; while it sleeps, the
-/// worker of another place may.
+/// A gate that is passed before each turn of a place. Mostly the place's own worker takes the turn; while it sleeps,
+/// the worker of another place may.
 pub trait Gate: Sync {
-    /// Returns whether a place takes the turn of this number. Its first turn has number 0. A worker that slept leaves out
-    /// the numbers of the turns that it would have taken meanwhile.
+    /// Returns whether a place takes the turn of this number. Its first turn has number 0. A worker that slept leaves
+    /// out the numbers of the turns that it would have taken meanwhile.
     fn pass(&self, place: Place, turn: u64) -> Go;
 
     /// Decides as [`Gate::pass`] does, before a turn of a worker that finds nothing to do: it has slept, or it sleeps

@@ -1,7 +1,7 @@
 //! How a worker takes turns of the places beside its own, while their workers sleep.
 //!
-//! A frame that meets sleeping workers crosses the network in the thread of the worker that it woke first. A worker that
-//! has much to do wakes the others instead, so that all work at once. No contract speaks of who takes a turn.
+//! A frame that meets sleeping workers crosses the network in the thread of the worker that it woke first. A worker
+//! that has much to do wakes the others instead, so that all work at once. No contract speaks of who takes a turn.
 
 ghost use Rattle.std.specs.Prelude.{◌≤◌};
 

@@ -1,10 +1,10 @@
-//! Workers: each takes the turns of one place in a thread of its own, over pb_lan and pb_rstp. While it sleeps, the worker
-//! of a place beside it may take them.
+//! Workers: each takes the turns of one place in a thread of its own, over pb_lan and pb_rstp. While it sleeps, the
+//! worker of a place beside it may take them.
 //!
 //! `run_all` starts them, joins them and returns the places. What holds of a place at the start and between turns holds
 //! of the place that comes back. Workers share the slots of the places, counters, and the bells of the gate, which wake
-//! those that sleep: the rings between places belong to the places. Begin reading at `run_all`, `Worker::take_turns` and
-//! `Helper::run`.
+//! those that sleep: the rings between places belong to the places. Begin reading at `run_all`, `Worker::take_turns`
+//! and `Helper::run`.
 #![tactic(auto)]
 
 mod bells;

@@ -9,11 +9,15 @@ pub(crate) const LONG: u64 = 1_000;
 /// The number of turns that a worker would take in a millisecond if it did not sleep longer than it has to.
 pub(crate) const TURNS: u64 = 2;
 
-/// The most idle turns in a row after which a worker yields the processor and does not sleep.
-pub(crate) const MOST_YIELDS: u32 = 64;
+/// The most idle turns in a row after which a worker does not sleep.
+pub(crate) const MOST_IDLE: u32 = 64;
 
 /// The fewest such turns.
-const FEWEST_YIELDS: u32 = 8;
+const FEWEST_IDLE: u32 = 8;
+
+/// The number of turns with something to do after which the worker of a watched port yields the processor in idle ones.
+/// One that had less to do sleeps soon and does not yield, since the system may then let others work for milliseconds.
+const BUSY: u32 = 16;
 
 /// The pace of a worker after a turn.
 #[derive(Clone, Copy)]
@@ -60,10 +64,15 @@ impl Pace {
         }
     }
 
-    /// Checks whether the worker yields and does not sleep yet. The more there was to do after its last sleep, the
-    /// longer it waits for more.
+    /// Checks whether the worker had much to do after its last sleep.
+    pub(crate) fn is_busy(self) -> bool {
+        self.done >= BUSY
+    }
+
+    /// Checks whether the worker does not sleep yet. The more there was to do after its last sleep, the longer it waits
+    /// for more.
     pub(crate) fn is_patient(self) -> bool {
-        let patience = self.done.saturating_add(FEWEST_YIELDS).min(MOST_YIELDS);
+        let patience = self.done.saturating_add(FEWEST_IDLE).min(MOST_IDLE);
         self.idle < patience
     }
 }

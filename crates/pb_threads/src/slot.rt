@@ -1,8 +1,8 @@
 //! The slots of places. A place is in its slot while no worker takes its turns.
 
-ghost use Rattle.std.specs.Prelude.{◌≡◌, List, [], Some, map, slice_get};
+ghost use Rattle.std.specs.Prelude.{List, []};
 ghost use Rattle.std.specs.Coded.{Coded-set, coded_option};
-ghost use Rattle.pb_threads.specs.Slots.{IsKept};
+ghost use Rattle.pb_threads.specs.Slots.{IsKept, HasGift};
 
 use crate::gate::Gate;
 use crate::showing::{show_ports, show_stations};
@@ -36,7 +36,7 @@ pub(crate) struct Owned<K: Roster<T>, T: Work> {
     pub finish: Option<Finish>,
     of: PhantomData<K>,
     ghost fits: { T.fits place } by { T.is_fact place },
-    ghost given: { slice_get (map T.given K.places) index ≡ Some (T.given place) } by { Coded-set (coded_option T.coded) _ _ },
+    ghost given: { HasGift T.given K.places index place } by { Coded-set (coded_option T.coded) _ _ },
 }
 
 impl<K: Roster<T>, T: Work> Owned<K, T> {

@@ -72,8 +72,8 @@ where
     L: Work,
     B: Work,
 {
-    /// Takes turns of the place of the worker of this index until there is nothing to do. Returns whether its worker may
-    /// sleep on. If not, it has to be woken.
+    /// Takes turns of the place of the worker of this index until there is nothing to do. Returns whether its worker
+    /// may sleep on. If not, it has to be woken.
     fn help<G: Gate, R: Clock>(
         &self,
         rt: &R,

@@ -2,7 +2,7 @@
 
 use crate::gate::Gate;
 use crate::helping::{Helper, is_ended, own_end};
-use crate::pace::{LONG, MOST_YIELDS, Pace, SHORT, TURNS};
+use crate::pace::{LONG, MOST_IDLE, Pace, SHORT, TURNS};
 use crate::slot::{Owned, Roster, Slot};
 use crate::turns::{Finish, TurnStatus, Work};
 use crate::words::Words;
@@ -61,9 +61,16 @@ fn sleep_time<K: Roster<T>, T: Work, G: Gate, R: Clock>(
     owned.ticks().until_tick(rt, most)
 }
 
-/// Rests after an idle turn: yields the processor after one of the first such turns in a row. Then returns for how many
-/// milliseconds the worker is to sleep until its bell rings, if the place and the gate allow it and its bell did not
-/// ring in the last turn. Else sleeps for half a millisecond at most.
+/// Checks whether the worker of a place yields the processor after an idle turn. That of a watched port does so only
+/// after much to do.
+fn yields<G: Gate>(gate: &G, place: Place, pace: Pace) -> bool {
+    let is_port = matches!(place, Place::Customer(_));
+    pace.is_busy() || !is_port || !gate.is_watched(place)
+}
+
+/// Rests after an idle turn: yields the processor, if it does, after one of the first such turns in a row. Then returns
+/// for how many milliseconds the worker is to sleep until its bell rings, if the place and the gate allow it and its
+/// bell did not ring in the last turn. Else sleeps for half a millisecond at most.
 fn rest<K: Roster<T>, T: Work, G: Gate, R: Wait + Clock>(
     rt: &R,
     owned: &Owned<K, T>,
@@ -72,11 +79,13 @@ fn rest<K: Roster<T>, T: Work, G: Gate, R: Wait + Clock>(
 ) -> Option<Sleep> {
     let last = *pace;
     *pace = last.after_rest();
+    let place = owned.place();
     if last.is_patient() {
-        thread::yield_now();
+        if yields(gate, place, last) {
+            thread::yield_now();
+        }
         return None;
     }
-    let place = owned.place();
     let millis = sleep_time(rt, owned, gate);
     match gate.bells() {
         Some(bells) if millis > 0 => {
@@ -84,7 +93,7 @@ fn rest<K: Roster<T>, T: Work, G: Gate, R: Wait + Clock>(
             let has_nodded = bells.nods(place, owned.is_held_up());
             return has_nodded.then_some(Sleep { place, millis });
         }
-        _ if last.idle < MOST_YIELDS => thread::yield_now(),
+        _ if last.idle < MOST_IDLE => thread::yield_now(),
         _ => {
             let micros = u64::from(last.idle).saturating_sub(60).min(500);
             thread::sleep(rt, Duration::from_micros(micros));
@@ -150,8 +159,8 @@ impl Worker {
         turned.status
     }
 
-    /// Takes turns of the place until it takes no more, other places are to be helped, or the worker may sleep. Closes a
-    /// place that takes no more.
+    /// Takes turns of the place until it takes no more, other places are to be helped, or the worker may sleep. Closes
+    /// a place that takes no more.
     fn take_turns<K: Roster<T>, T: Work, G: Gate, R: Wait + Clock>(
         &mut self,
         rt: &R,
