@@ -13,8 +13,9 @@ use crate::peer::{Peer, Progress};
 use mio::net::{UnixListener, UnixStream};
 use pb_lan::Plan;
 use std::alloc::Global;
-use std::fs::Files;
+use std::fs::{File, Files};
 use std::net::Net;
+use std::time::Clock;
 use std::{fs, io};
 
 /// The greatest number of steps of a turn. A peer that never stops sending can't keep the caller.
@@ -56,7 +57,11 @@ impl Control {
     /// # Errors
     ///
     /// Those of [`listen`].
-    pub fn open<R: Files + Net>(rt: &R, alloc: Global, path: &str) -> io::Result<Control>
+    pub fn open<R: Files<File = File> + Net + Clock>(
+        rt: &R,
+        alloc: Global,
+        path: &str,
+    ) -> io::Result<Control>
         ensures { IfOk result (λ control. path_of control ≡ path.now) }
     {
         let kept = String::from_str(alloc, path)?;

@@ -2,12 +2,13 @@
 
 use mio::net::{UnixListener, UnixStream};
 use std::alloc::Global;
-use std::fs::{DirBuilder, Files, Permissions};
+use std::fs::{DirBuilder, File, Files, Permissions, TryLockError};
 use std::io::ErrorKind;
 use std::net::Net;
 use std::os::unix::fs::{DirBuilderExt, FileTypeExt, MetadataExt, PermissionsExt};
 use std::path::Path;
-use std::{fs, io};
+use std::time::{Clock, Duration};
+use std::{fs, io, thread};
 
 /// The mode of the socket: only the owner may connect.
 const MODE: u32 = 0o600;
@@ -17,6 +18,12 @@ const FOLDER_MODE: u32 = 0o700;
 
 /// The number of names that are tried for that folder.
 const MOST_FOLDERS: u32 = 1_000;
+
+/// The number of tries to lock the folder of a path.
+const MOST_TRIES: u32 = 1_000;
+
+/// The pause in milliseconds between two of them.
+const PAUSE: u64 = 1;
 
 /// Returns the device and the number of the file at a path. A symbolic link is not followed. `None` if no file is
 /// there, or its metadata can't be read.
@@ -35,6 +42,34 @@ fn is_forsaken(net: &impl Net, path: &str) -> bool {
     }
 }
 
+/// Returns the path of the folder of the file at a path.
+fn parent_of(path: &str) -> &str {
+    match Path::new(path).parent() {
+        Some(parent) if !parent.as_str().is_empty() => parent.as_str(),
+        _ => ".",
+    }
+}
+
+/// Locks the folder of a path: of several runs that replace a socket there, one at a time does. Returns `None` if the
+/// system can't lock it.
+///
+/// # Errors
+///
+/// `AddrInUse` if the folder stays locked for a second.
+fn locked_folder<R: Files<File = File> + Clock>(rt: &R, path: &str) -> io::Result<Option<File>> {
+    let Ok(folder) = fs::open(rt, parent_of(path)) else {
+        return Ok(None);
+    };
+    for _ in 0..MOST_TRIES {
+        match folder.try_lock() {
+            Ok(()) => return Ok(Some(folder)),
+            Err(TryLockError::WouldBlock) => thread::sleep(rt, Duration::from_millis(PAUSE)),
+            Err(TryLockError::Error(_)) => return Ok(None),
+        }
+    }
+    Err(io::Error::from(ErrorKind::AddrInUse))
+}
+
 /// Makes a folder beside a path, which only its owner can enter. Its name begins with a dot and is not taken.
 ///
 /// # Errors
@@ -42,10 +77,7 @@ fn is_forsaken(net: &impl Net, path: &str) -> bool {
 /// `AlreadyExists` if all of 1,000 names are taken, `OutOfMemory` if an allocation failed. Any other error is the
 /// system's.
 fn make_folder(rt: &impl Files, alloc: Global, path: &str) -> io::Result<String> {
-    let parent = match Path::new(path).parent() {
-        Some(parent) if !parent.as_str().is_empty() => parent.as_str(),
-        _ => ".",
-    };
+    let parent = parent_of(path);
     for number in 0..MOST_FOLDERS {
         let folder = format!(in alloc; "{parent}/.{number}")?;
         match DirBuilder::new()
@@ -102,9 +134,13 @@ fn make_room<R: Files + Net>(rt: &R, path: &str, old: &str) -> io::Result<()> {
 /// # Errors
 ///
 /// Those of [`make_room`], or the system's.
-fn name_socket<R: Files + Net>(rt: &R, made: &str, path: &str, old: &str) -> io::Result<()> {
+fn name_socket<R>(rt: &R, made: &str, path: &str, old: &str) -> io::Result<()>
+where
+    R: Files<File = File> + Net + Clock,
+{
     match publish(rt, made, path) {
         Err(e) if e.kind() == ErrorKind::AlreadyExists => {
+            let _lock = locked_folder(rt, path)?;
             make_room(rt, path, old)?;
             publish(rt, made, path)
         }
@@ -117,7 +153,7 @@ fn name_socket<R: Files + Net>(rt: &R, made: &str, path: &str, old: &str) -> io:
 /// # Errors
 ///
 /// Those of [`listen`].
-fn listen_in<R: Files + Net>(
+fn listen_in<R: Files<File = File> + Net + Clock>(
     rt: &R,
     alloc: Global,
     folder: &str,
@@ -135,19 +171,23 @@ fn listen_in<R: Files + Net>(
     Ok(listener)
 }
 
-/// Opens a Unix socket at a path, to which only its owner may connect. No call of it waits. The socket is made in a
+/// Opens a Unix socket at a path, to which only its owner may connect. No call of the socket waits. The socket is made in a
 /// folder beside the path that only its owner can enter, and gets its name once it has its mode: a peer that finds it
 /// may connect, and stays connected. The folder is removed again.
 ///
 /// A file at the path is replaced only if it is a socket on which nobody listens. Of several that do so at once, one
-/// succeeds.
+/// succeeds: the folder of the path is locked meanwhile. That waits for a second at most.
 ///
 /// # Errors
 ///
 /// `AddrInUse` if somebody listens on the socket at the path, or may. `AlreadyExists` if any other file is there, a
 /// symbolic link among them. `OutOfMemory` if an allocation failed. Any other error is the system's. No socket of ours
 /// remains after an error.
-pub fn listen<R: Files + Net>(rt: &R, alloc: Global, path: &str) -> io::Result<UnixListener> {
+pub fn listen<R: Files<File = File> + Net + Clock>(
+    rt: &R,
+    alloc: Global,
+    path: &str,
+) -> io::Result<UnixListener> {
     let folder = make_folder(rt, alloc, path)?;
     let listener = listen_in(rt, alloc, folder.as_str(), path);
     let _ = fs::remove_dir(rt, folder.as_str());

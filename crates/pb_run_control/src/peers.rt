@@ -44,6 +44,7 @@ impl Peers {
         if let Some(state) = self.states.get(index) {
             let now = match change {
                 PeerChange::Connected => CONNECTED,
+                PeerChange::Unaccepted => return,
                 PeerChange::Left { .. } => NONE,
             };
             state.store(now, Ordering::SeqCst);

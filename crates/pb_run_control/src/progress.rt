@@ -11,11 +11,13 @@ pub enum Opening {
     Unsettled(u64),
 }
 
-/// The change of a customer port's peer, at a socket that stays when its peer leaves.
+/// The change of a customer port's peer, at a socket that stays when its peer leaves or that waits for its peer.
 #[derive(Clone, Copy, PartialEq, Eq, Debug)]
 pub enum PeerChange {
     /// A peer has connected.
     Connected,
+    /// A peer that waits can't be accepted for want of a descriptor or of memory. The port tries again.
+    Unaccepted,
     /// The peer has left.
     Left {
         /// The number of frames that the peer sent.
@@ -39,6 +41,9 @@ pub trait RunProgress: Gate {
 
     /// Receives that the run is over: no worker runs any more, and no report is printed yet.
     fn close(&self);
+
+    /// Receives that the run begins once somebody reads the pipe that this port or tap writes.
+    fn waits(&self, _user: &str) {}
 
     /// Receives that the peer of the customer port of this name has changed.
     fn peer(&self, _port: &str, _change: PeerChange) {}

@@ -316,6 +316,10 @@ impl<G: RunProgress> RunProgress for Steering<'_, G> {
         self.gate.close();
     }
 
+    fn waits(&self, user: &str) {
+        self.gate.waits(user);
+    }
+
     fn peer(&self, port: &str, change: PeerChange) {
         for (index, customer) in self.plan.customers.as_slice().iter().enumerate() {
             if customer.name.as_str() == port {

@@ -4,18 +4,23 @@ use super::folder::{enter, leave};
 use mio::net::{UnixListener, UnixStream};
 use pb_control_socket::Control;
 use std::alloc::Global;
-use std::fs::Files;
+use std::fs::{File, Files};
 use std::io::ErrorKind;
 use std::net::Net;
 use std::os::unix::fs::{FileTypeExt, MetadataExt, symlink};
 use std::test::Fail;
+use std::time::Clock;
 use std::{fs, io};
 
 /// The socket's path.
 const PATH: &str = "control.sock";
 
 /// Returns the reason why no socket can be opened at a path.
-fn refusal<R: Files + Net>(rt: &R, alloc: Global, path: &str) -> Option<ErrorKind> {
+fn refusal<R: Files<File = File> + Net + Clock>(
+    rt: &R,
+    alloc: Global,
+    path: &str,
+) -> Option<ErrorKind> {
     match Control::open(rt, alloc, path) {
         Ok(_) => None,
         Err(e) => Some(e.kind()),
@@ -44,7 +49,10 @@ fn node(rt: &impl Files) -> io::Result<(bool, u32)> {
 }
 
 /// Opens and closes a socket. Returns what was at the path meanwhile, and whether the path is free then.
-fn made_and_closed<R: Files + Net>(rt: &R, alloc: Global) -> io::Result<((bool, u32), bool)> {
+fn made_and_closed<R: Files<File = File> + Net + Clock>(
+    rt: &R,
+    alloc: Global,
+) -> io::Result<((bool, u32), bool)> {
     let control = for_any_thread(Control::open(rt, alloc, PATH)?);
     let node = node(rt);
     control.close(rt);
@@ -53,7 +61,7 @@ fn made_and_closed<R: Files + Net>(rt: &R, alloc: Global) -> io::Result<((bool, 
 
 /// Opens a socket while somebody listens at the path. Returns the reason why that fails, and whether the listener still
 /// accepts peers.
-fn beside_a_live_one<R: Files + Net>(
+fn beside_a_live_one<R: Files<File = File> + Net + Clock>(
     rt: &R,
     alloc: Global,
 ) -> io::Result<(Option<ErrorKind>, bool)> {
@@ -64,7 +72,7 @@ fn beside_a_live_one<R: Files + Net>(
 
 /// Opens a socket in place of one whose listener is gone. Returns whether the path was free before, whether peers can
 /// connect, and whether the path is free after the socket is closed.
-fn in_place_of_a_stale_one<R: Files + Net>(
+fn in_place_of_a_stale_one<R: Files<File = File> + Net + Clock>(
     rt: &R,
     alloc: Global,
 ) -> io::Result<(bool, bool, bool)> {
@@ -75,8 +83,22 @@ fn in_place_of_a_stale_one<R: Files + Net>(
     Ok((was_free, is_heard, is_free(rt)))
 }
 
+/// Opens a socket at a path whose folder another process keeps locked, in place of one whose listener is gone. Returns
+/// the reason why that fails, and whether the path is free.
+fn in_a_locked_folder<R: Files<File = File> + Net + Clock>(
+    rt: &R,
+    alloc: Global,
+) -> io::Result<(Option<ErrorKind>, bool)> {
+    drop(UnixListener::bind(rt, PATH)?);
+    let folder = fs::open(rt, ".")?;
+    folder.lock()?;
+    let seen = (refusal(rt, alloc, PATH), is_free(rt));
+    fs::remove_file(rt, PATH)?;
+    Ok(seen)
+}
+
 /// Closes a socket after a text file has taken its place.
-fn closed_too_late<R: Files + Net>(rt: &R, alloc: Global) -> io::Result<()> {
+fn closed_too_late<R: Files<File = File> + Net + Clock>(rt: &R, alloc: Global) -> io::Result<()> {
     let control = Control::open(rt, alloc, PATH)?;
     let is_written = fs::remove_file(rt, PATH).and(fs::write(rt, PATH, "words"));
     control.close(rt);
@@ -85,7 +107,7 @@ fn closed_too_late<R: Files + Net>(rt: &R, alloc: Global) -> io::Result<()> {
 
 /// Opens a socket while a text file is at the path. Returns the reason why that fails, and whether the text is
 /// unchanged. Removes the file.
-fn beside_a_file<R: Files + Net + AllocGlobal>(
+fn beside_a_file<R: Files<File = File> + Net + Clock + AllocGlobal>(
     rt: &R,
     alloc: Global,
 ) -> io::Result<(Option<ErrorKind>, bool)> {
@@ -97,7 +119,10 @@ fn beside_a_file<R: Files + Net + AllocGlobal>(
 
 /// Opens a socket while a symbolic link is at the path. Returns the reason why that fails, and whether the path is
 /// free. Removes the link.
-fn beside_a_link<R: Files + Net>(rt: &R, alloc: Global) -> io::Result<(Option<ErrorKind>, bool)> {
+fn beside_a_link<R: Files<File = File> + Net + Clock>(
+    rt: &R,
+    alloc: Global,
+) -> io::Result<(Option<ErrorKind>, bool)> {
     symlink(rt, "nowhere.sock", PATH)?;
     let seen = (refusal(rt, alloc, PATH), is_free(rt));
     fs::remove_file(rt, PATH)?;
@@ -114,6 +139,7 @@ fn the_file_is_ours_alone(rt: HostRuntime) -> Result<(), Fail> {
     assert!(rt; made_and_closed(&rt, alloc)? == ((true, 0o600), true));
     assert!(rt; beside_a_live_one(&rt, alloc)? == IN_USE);
     assert!(rt; in_place_of_a_stale_one(&rt, alloc)? == (false, true, true));
+    assert!(rt; in_a_locked_folder(&rt, alloc)? == (Some(ErrorKind::AddrInUse), false));
     // (a file that is no socket is unchanged, and also one that took the place of our socket)
     closed_too_late(&rt, alloc)?;
     assert!(rt; beside_a_file(&rt, alloc)? == (EXISTS, true));

@@ -10,11 +10,12 @@ use super::stage::{Action, PATH, Stage, happens};
 use pb_control_socket::{Control, Request};
 use pb_lan::Plan;
 use std::alloc::Global;
-use std::fs::Files;
+use std::fs::{File, Files};
 use std::net::Net;
 use std::process::{Abort, Process};
 use std::rt::Env;
 use std::test::Fail;
+use std::time::Clock;
 
 /// The replies to `stations west` and `stop`.
 const ONE_BRIDGE: &str = "\
@@ -57,7 +58,7 @@ fn are_told<R: Abort + Net>(
 }
 
 /// Performs stories at a socket in a folder of its own.
-fn come_to_pass<R: Abort + Env + Files + Net + AllocGlobal>(
+fn come_to_pass<R: Abort + Env + Files<File = File> + Net + Clock + AllocGlobal>(
     rt: &R,
     alloc: Global,
     process: Process,
