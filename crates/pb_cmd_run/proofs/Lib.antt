@@ -3,3 +3,5 @@ pub mod NetworkLemmas
 pub mod OpenedLemmas
 pub mod TellingLemmas
 pub mod TapLemmas
+pub mod PipeLemmas
+pub mod UnsentLemmas

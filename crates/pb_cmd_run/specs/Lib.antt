@@ -2,6 +2,8 @@ pub mod Reports
 pub mod AnyPorts
 pub mod Scripted
 pub mod Faults
+pub mod Unsent
 pub mod Networks
 pub mod Telling
 pub mod PortFaults
+pub mod Pipes

@@ -1,5 +1,5 @@
 -- The output for the network of a plan file.
-use Rattle.std.specs.Prelude.{◌≡◌, ◌⊎◌, ℕ, Bool, true, List, [], length}
+use Rattle.std.specs.Prelude.{◌≡◌, ◌⊎◌, ℕ, Bool, true, List, [], length, All}
 use Rattle.std.specs.Io.KnownBytes.{Appends}
 use Rattle.std.specs.declared.option.Option.{Option}
 use Rattle.std.specs.declared.result.Result.{Result}
@@ -16,16 +16,19 @@ use Rattle.pb_workers.specs.Lossless.{NoFullQueueRefuses}
 use Rattle.pb_workers.specs.Ports.{Frames}
 use Rattle.pb_run.specs.Runs.{TellsEnded}
 use Rattle.pb_workers.specs.declared.access.Last.{Last}
+use Rattle.pb_workers.specs.declared.access.Last.TheVariants.{End}
 use Rattle.pb_run.specs.declared.ended.Ended.{Ended}
+use Rattle.pb_run.specs.declared.ended.Ended.TheVariants.{Drained}
 use Rattle.pb_service.specs.PlanFiles.{Tells, IsPlanOf, IsLosslessIn}
 use Rattle.pb_service.specs.declared.port_spec.PortSpec.{PortSpec}
 use Rattle.pb_cmd_run.specs.Reports.{IsRunReport}
 use Rattle.pb_cmd_run.specs.Scripted.{AreScripted}
+use Rattle.pb_cmd_run.specs.Unsent.{AreUnsent}
 use Rattle.pb_run_losses.specs.Strict.{exit_status, is_whole, lost_text}
 use Rattle.pb_run_losses.specs.declared.strictness.Strictness.{Strictness}
 
 -- the report of a run was written, and the exit status is its own, or 4 if the run is strict and was not whole (each
--- customer port has its newest poll, and frames that it still holds)
+-- customer port has its newest poll, and holds the frames that left and that it did not send)
 pub record PrintsReport (strictness : Strictness) (plan : Plan) (rec : Record) (ended : Ended) (settled : Result (Option Bool) Memory) (lasts : List Last) (status : ℕ) (before after : Option (List ℕ)) : Type 0 where
   pub told : ℕ
   pub text : List ℕ
@@ -33,6 +36,7 @@ pub record PrintsReport (strictness : Strictness) (plan : Plan) (rec : Record) (
   pub is_report : IsRunReport plan rec ended settled lasts told text
   pub unsent : List Frames
   pub unsent_count : length unsent ≡ length plan.customers
+  pub unsent_is : AreUnsent unsent rec.customers
   pub status_is : status ≡ exit_status strictness (is_whole ended (lost_text plan rec settled unsent)) told
 
 -- a plan has run with its ports: the record is lawful and has the guarantees of every run, no full queue refused a copy
@@ -63,16 +67,26 @@ pub record PrintsRunOf (strictness : Strictness) (file : List ℕ) (status : ℕ
 abbrev pub PrintsNetwork : Strictness → List ℕ → ℕ → Option (List ℕ) → Option (List ℕ) → Type 0
 PrintsNetwork strictness file status before after = ((status ≡ 1) × PrintsRefusal file before after) ⊎ PrintsRunOf strictness file status before after
 
--- the file is a plan whose network has carried all that entered: each frame has left or was dropped for another reason
--- than a full queue, the frames that left are faithful to those that entered, and the loss report is empty
-pub record HasCarriedAll (file : List ℕ) : Type 0 where
+-- the file is a plan whose network has carried all that entered, and the report that was written is that of its record:
+-- each port has come to its end and has given all frames that the file lists for it, each frame that entered has left or
+-- was dropped for another reason than a full queue, what left is faithful to what entered, and the loss report is empty
+pub record HasCarriedAll (file : List ℕ) (before after : Option (List ℕ)) : Type 0 where
   pub plan : Plan
   pub specs : List PortSpec
   pub told : Tells file (λ document. IsPlanOf document plan specs)
   pub rec : Record
   pub lawful : IsLawfulRecord spanning_tree plan rec
   pub headline : IsFaithful plan rec
+  pub lasts : List Last
+  pub last_count : length lasts ≡ length plan.customers
+  pub ends : All (λ last. last ≡ End) lasts
+  pub scripted : AreScripted specs rec.customers lasts
   pub drained : (mark : Mark) → IsDrained plan rec mark
   pub settled : Result (Option Bool) Memory
   pub unsent : List Frames
+  pub unsent_count : length unsent ≡ length plan.customers
+  pub unsent_is : AreUnsent unsent rec.customers
   pub lost : lost_text plan rec settled unsent ≡ []
+  pub text : List ℕ
+  pub is_report : IsRunReport plan rec Drained settled lasts 0 text
+  pub written : Appends before after text

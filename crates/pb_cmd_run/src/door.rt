@@ -5,6 +5,7 @@ use pb_frame::Text;
 use pb_run_control::PeerChange;
 use rtrb::{Consumer, Producer, RingBuffer};
 use std::alloc::{AllocError, Global};
+use std::io::{Error, ErrorKind};
 use std::net::Net;
 use std::time::{Clock, Duration, Instant};
 
@@ -16,6 +17,11 @@ const SHORTEST: u64 = 10;
 
 /// The longest time between two tries to connect, in milliseconds.
 const LONGEST: u64 = 1_000;
+
+/// Checks whether a call that ended with this error is to be repeated later.
+pub(crate) fn may_wait(error: &Error) -> bool {
+    matches!(error.kind(), ErrorKind::Interrupted | ErrorKind::WouldBlock)
+}
 
 /// The port's side of a door.
 #[derive(Drop)]
@@ -33,6 +39,18 @@ impl PortDoor {
     /// Returns the next peer to which the gate has connected, if there is one.
     pub(crate) fn next(&mut self) -> Option<UnixStream> {
         self.streams.pop().ok()
+    }
+
+    /// Reports once that a peer that waits can't be accepted, for an error that is not that none waits. Returns whether
+    /// this is reported.
+    pub(crate) fn tell_unaccepted(&mut self, has_told: bool, error: &Error) -> bool {
+        if may_wait(error) {
+            return has_told;
+        }
+        if !has_told {
+            self.report(PeerChange::Unaccepted);
+        }
+        true
     }
 
     /// Reports a change. After [`PeerChange::Left`] the gate connects to the next peer, if the port connects.

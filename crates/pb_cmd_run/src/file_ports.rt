@@ -1,11 +1,12 @@
 //! Ports over capture files, and the times of their records.
 
-ghost use Rattle.std.specs.Prelude.{◌<◌, ◌≤◌};
+ghost use Rattle.std.specs.Prelude.{◌≡◌, ◌<◌, ◌≤◌, []};
 
 use crate::completing::{CaptureFiles, WrittenFile};
 use crate::cut::WriteError;
 use crate::input::Input;
 use crate::pacing::{PacedInput, unpaced};
+use crate::pipe::Pipe;
 use crate::sink::Sink;
 use crate::system::Output;
 use pb_frame::Text;
@@ -52,9 +53,19 @@ pub(crate) fn scale_of(stamp: Stamp, day: Timescale) -> Timescale {
 ///
 /// `AllocError` if an allocation failed.
 fn parted(alloc: Global, output: Output, path: Text) -> Result<(Sink, WrittenFile), AllocError> {
-    let Output { file, twin, .. } = output;
+    let Output {
+        file,
+        twin,
+        is_pipe,
+        ..
+    } = output;
     let error = Arc::new(alloc, WriteError::none())?;
-    let sink = Sink::File(file, Arc::try_clone(&error)?);
+    let noted = Arc::try_clone(&error)?;
+    let sink = if is_pipe {
+        Sink::Pipe(Pipe::new(file), noted)
+    } else {
+        Sink::File(file, noted)
+    };
     let written = WrittenFile {
         path,
         file: twin,
@@ -109,6 +120,7 @@ pub(crate) fn capture_port(
     sink: Sink,
 ) -> FilePort
     requires { (0 < capacity) × (capacity ≤ 4096) }
+    ensures { result.sender.unsent.items ≡ [] }
 {
     CapturePort::on_scale(alloc, capacity, scale, input, Over::new(sink))
 }
@@ -116,6 +128,7 @@ pub(crate) fn capture_port(
 /// Returns a port that writes a capture and that no frame enters.
 pub(crate) fn record_port(alloc: Global, capacity: u16, scale: Timescale, sink: Sink) -> FilePort
     requires { (0 < capacity) × (capacity ≤ 4096) }
+    ensures { result.sender.unsent.items ≡ [] }
 {
     let (input, sink) = (unpaced(Input::Empty), Over::new(sink));
     CapturePort::recording(alloc, capacity, scale, input, sink)
@@ -124,6 +137,7 @@ pub(crate) fn record_port(alloc: Global, capacity: u16, scale: Timescale, sink: 
 /// Returns a port that reads a capture and drops the frames that leave.
 pub(crate) fn replay_port(alloc: Global, capacity: u16, input: PacedInput) -> FilePort
     requires { (0 < capacity) × (capacity ≤ 4096) }
+    ensures { result.sender.unsent.items ≡ [] }
 {
     CapturePort::new(alloc, capacity, input, Over::new(Sink::Nowhere))
 }

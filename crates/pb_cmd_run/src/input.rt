@@ -7,12 +7,34 @@ use std::io::{ErrorKind, Read, Write};
 use std::os::fd::OwnedFd;
 use std::os::unix::fs::FileTypeExt;
 use std::os::unix::net::UnixStream;
+use std::process::ChildStdout;
 use std::{fs, io};
+
+/// The handle of a file that is read.
+#[derive(Drop)]
+enum Handle {
+    /// A file that was opened.
+    Opened(File),
+    /// Standard input itself.
+    Standard(ChildStdout),
+}
+
+impl Handle {
+    /// Reads the next octets, as `read` of [`Read`] does.
+    fn read(&mut self, buf: &mut [u8]) -> io::Result<usize>
+        ensures { ReadsAtMost result buf.new }
+    {
+        match self {
+            Handle::Opened(file) => file.read(buf),
+            Handle::Standard(input) => input.read(buf),
+        }
+    }
+}
 
 /// A file that is read.
 #[derive(Drop)]
 pub(crate) struct Source {
-    file: File,
+    file: Handle,
     /// For a named pipe from which nothing has come: a writer that the run itself holds, which keeps the pipe from its
     /// end until another writer has come.
     writer: Option<File>,
@@ -69,8 +91,12 @@ pub(crate) fn input_path(path: &str) -> &str {
     if path == "-" { "/dev/stdin" } else { path }
 }
 
-/// Makes reads of a file return `WouldBlock` instead of blocking.
-fn stop_waiting(file: &File) -> io::Result<()> {
+/// Makes reads and writes of a file return `WouldBlock` instead of blocking.
+///
+/// # Errors
+///
+/// The error of the system.
+pub(crate) fn stop_waiting(file: &File) -> io::Result<()> {
     let twin = file.try_clone()?;
     UnixStream::from(OwnedFd::from(twin)).set_nonblocking(true)
 }
@@ -85,27 +111,52 @@ fn open_pipe<R: Files<File = File>>(rt: &R, path: &str, is_standard: bool) -> io
     let file = File::open(rt, path)?;
     stop_waiting(&file)?;
     let writer = if is_standard { None } else { Some(writer) };
+    let file = Handle::Opened(file);
     Ok(Input::File(Source { file, writer }))
+}
+
+/// Takes standard input as it is: a file goes on from where it is, and the reads of a socket don't block.
+///
+/// # Errors
+///
+/// The error of the system.
+fn take_standard(standard: &OwnedFd, is_socket: bool) -> io::Result<Input> {
+    if is_socket {
+        UnixStream::from(standard.try_clone()?).set_nonblocking(true)?;
+    }
+    let file = Handle::Standard(ChildStdout::from(standard.try_clone()?));
+    Ok(Input::File(Source { file, writer: None }))
 }
 
 /// Opens a file for reading, or standard input if the path is `-`. Its reads don't block.
 ///
 /// A named pipe ends when something has come from it and no writer is left. Standard input that is a pipe ends when no
-/// writer is left.
+/// writer is left. If it is a file or a socket, and given, it is taken as it is.
 ///
 /// # Errors
 ///
 /// The error of the system.
-pub(crate) fn open_input<R: Files<File = File>>(rt: &R, path: &str) -> io::Result<Input> {
+pub(crate) fn open_input<R: Files<File = File>>(
+    rt: &R,
+    path: &str,
+    standard: Option<&OwnedFd>,
+) -> io::Result<Input> {
     let is_standard = path == "-";
     let path = input_path(path);
     let metadata = fs::metadata(rt, path)?;
-    if metadata.file_type().is_fifo() {
+    let kind = metadata.file_type();
+    if kind.is_fifo() {
         return open_pipe(rt, path, is_standard);
+    }
+    if is_standard && (kind.is_file() || kind.is_socket()) {
+        if let Some(handle) = standard {
+            return take_standard(handle, kind.is_socket());
+        }
     }
     let file = File::open(rt, path)?;
     if !metadata.is_file() {
         stop_waiting(&file)?;
     }
+    let file = Handle::Opened(file);
     Ok(Input::File(Source { file, writer: None }))
 }

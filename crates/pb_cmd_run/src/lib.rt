@@ -20,8 +20,10 @@ mod outside;
 mod pacing;
 mod pcapng;
 mod peer;
+mod pipe;
 mod plug;
 mod port_faults;
+mod readers;
 mod report;
 mod settings;
 mod sink;
@@ -42,5 +44,6 @@ pub use pb_run_losses::{Strictness, lost_of};
 pub use pb_run_ports::{
     Deed, FileUser, OpenFault, Opened, Openings, PathFault, SharedFile, Verb, open_all,
 };
+pub use pipe::open_unwaiting;
 pub use report::write_report;
 pub use settings::RunSettings;

@@ -1,6 +1,8 @@
 //! The time after a run in which ports write the frames that wait in them.
 
-ghost use Rattle.std.specs.Prelude.{◌≡◌, length};
+ghost use Rattle.std.specs.Prelude.{◌≡◌, length, map};
+ghost use Rattle.pb_cmd_run.specs.Unsent.{HaveSent};
+ghost use Rattle.pb_workers.specs.Ports.{HasSent};
 
 use pb_port::{Port, Pumped};
 use pb_run::{Held, LaneTap, Recorder, TappedRun};
@@ -31,7 +33,7 @@ pub(crate) struct Lingering<'a> {
 
 /// The result of a try to write.
 #[derive(Clone, Copy, PartialEq, Eq)]
-enum Try {
+pub(crate) enum Try {
     /// Frames were written.
     Moved,
     /// No frame was written, and some wait for a device that takes nothing yet.
@@ -40,8 +42,21 @@ enum Try {
     Over,
 }
 
+impl Try {
+    /// Returns the result of this try and another.
+    pub(crate) fn and(self, other: Try) -> Try {
+        match (self, other) {
+            (Try::Moved, _) | (_, Try::Moved) => Try::Moved,
+            (Try::Waiting, _) | (_, Try::Waiting) => Try::Waiting,
+            _ => Try::Over,
+        }
+    }
+}
+
 /// Has a port write the frames that its device takes, at this number of ticks.
-fn try_port(port: &mut Held, ticks: u32) -> Try {
+pub(crate) fn try_port(port: &mut Held, ticks: u32) -> Try
+    ensures { HasSent (waiting port.old) (waiting port.new) }
+{
     match port.pump(ticks) {
         Pumped::Wrote(_) => Try::Moved,
         Pumped::Nothing if !port.unsent().is_empty() => Try::Waiting,
@@ -50,10 +65,12 @@ fn try_port(port: &mut Held, ticks: u32) -> Try {
 }
 
 /// Has each port write the frames that its device takes, at this number of ticks.
-fn try_all(ports: &mut [Held], ticks: u32) -> Try {
+fn try_all(ports: &mut [Held], ticks: u32) -> Try
+    ensures { HaveSent (map (λ b. waiting b) ports.old) (map (λ b. waiting b) ports.new) }
+{
     let mut came = Try::Over;
-    for port in ports {
-        match try_port(port, ticks) {
+    for index in 0..ports.len() {
+        match try_port(&mut ports[index], ticks) {
             Try::Moved => came = Try::Moved,
             Try::Waiting if came == Try::Over => came = Try::Waiting,
             _ => {}
@@ -80,7 +97,7 @@ fn is_waiting(tap: &mut LaneTap) -> bool {
 }
 
 /// Has each tap write the frames that its file takes, at this number of ticks.
-fn try_taps(lanes: &mut [Vec<LaneTap>], ticks: u32, ports: Try) -> Try {
+pub(crate) fn try_taps(lanes: &mut [Vec<LaneTap>], ticks: u32, ports: Try) -> Try {
     let mut came = ports;
     for taps in lanes {
         for tap in taps {
@@ -117,7 +134,9 @@ fn write_on<R: Clock>(
     ports: &mut [Held],
     lanes: &mut [Vec<LaneTap>],
     lingering: Lingering<'_>,
-) {
+)
+    ensures { HaveSent (map (λ b. waiting b) ports.old) (map (λ b. waiting b) ports.new) }
+{
     let ticks = lingering.traffic.ticks().min(MOST_TICKS) as u32;
     drain_taps(lanes, ticks);
     let Ok(start) = Instant::now(rt) else {
@@ -127,8 +146,8 @@ fn write_on<R: Clock>(
         if is_past(rt, start, lingering.millis) {
             return;
         }
-        let ports = try_all(ports, ticks);
-        match try_taps(lanes, ticks, ports) {
+        let came = try_all(ports, ticks);
+        match try_taps(lanes, ticks, came) {
             Try::Moved => {}
             Try::Waiting => thread::sleep(rt, Duration::from_millis(PAUSE)),
             Try::Over => return,
@@ -144,6 +163,8 @@ pub(crate) fn lingered<R: Clock>(rt: &R, run: TappedRun, lingering: Lingering<'_
     ensures ended { result.ran.ended ≡ run.ran.ended }
     ensures settled { result.ran.settled ≡ run.ran.settled }
     ensures ports { length result.ran.ports.items ≡ length run.ran.ports.items }
+    ensures sent { HaveSent (map (λ b. waiting (b.vtable, b.value)) run.ran.ports.items)
+        (map (λ b. waiting (b.vtable, b.value)) result.ran.ports.items) }
 {
     let TappedRun { mut ran, mut taps } = run;
     write_on(rt, ran.ports.as_mut_slice(), taps.as_mut_slice(), lingering);

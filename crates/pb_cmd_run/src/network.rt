@@ -1,6 +1,6 @@
 //! Runs of the networks of plan files.
 
-ghost use Rattle.std.specs.Prelude.{◌≡◌, ◌≢◌, ◌⊎◌, length, map, vec_len, List, ℕ, IfOk, IfErr, OnOk};
+ghost use Rattle.std.specs.Prelude.{◌≡◌, ◌≢◌, ◌⊎◌, length, map, vec_len, All, List, [], ℕ, IfOk, IfErr, OnOk};
 ghost use Rattle.std.specs.Io.KnownBytes.{Appends, Keeps};
 ghost use Rattle.pb_lan.specs.Plans.{IsSound};
 ghost use Rattle.pb_service.specs.PlanFiles.{Tells, IsPlanOf, RefusesFile};
@@ -9,6 +9,7 @@ ghost use Rattle.pb_report.specs.Refusals.{refusal_line};
 ghost use Rattle.pb_cmd_run.specs.Faults.{ComesOf};
 ghost use Rattle.pb_cmd_run.specs.Networks.{PrintsRan, PrintsNetwork};
 ghost use Rattle.pb_cmd_run.specs.Scripted.{script_at};
+ghost use Rattle.pb_cmd_run.specs.Unsent.{waiting_at};
 ghost use Rattle.pb_run_ports.specs.Opened.{script_in};
 
 use crate::attended::Attended;
@@ -116,6 +117,7 @@ where
     R: Files<File = File> + Threads + Wait + Clock + Sync,
     requires sound { IsSound plan.now }
     requires count { vec_len ports ≡ length plan.now.customers }
+    requires fresh { All (λ w. waiting_at w.port ≡ []) ports.items }
     ensures ok { IfOk result (λ status. (specs : List PortSpec) →
         map (λ w. script_at w.port) ports.items ≡ map script_in specs
         → PrintsRan strictness plan.now specs is_lossless status (W.contents writer.old) (W.contents writer.new)) }
@@ -140,9 +142,8 @@ where
     }
     match run_tapped(rt, alloc, plan, held, recorders, gate, limits, is_lossless) {
         Ok(run) => {
-            gate.close();
             tell_run(
-                rt, alloc, strictness, plan, users, files, run, lingering, writer, errors,
+                rt, alloc, strictness, plan, users, files, run, lingering, gate, writer, errors,
             )
         }
         Err(fault) => {
@@ -204,7 +205,6 @@ where
         millis: settings.linger,
         traffic,
     };
-    let path = settings.plan;
     let mut duty = Attendance::new(alloc);
     let names = link_names(alloc, plan, taps.as_slice())?;
     let users = Users {
@@ -212,7 +212,7 @@ where
         taps: names.as_slice(),
     };
     let outside = open_ports(
-        rt, alloc, path, plan, users, specs, taps, limits, traffic, &mut duty, errors,
+        rt, alloc, settings, plan, users, specs, taps, limits, traffic, gate, &mut duty, errors,
     )?;
     let Outside {
         ports,
@@ -256,9 +256,12 @@ where
 /// it, and the spanning tree decides the states of ports by clocks that tick, no frame enters before the bridges seem
 /// to have converged or have ticked 200 times. The gate receives which of the two it was.
 ///
-/// Meanwhile the file's taps capture what crosses links, S-tags and BPDUs included.
+/// Meanwhile the file's taps capture what crosses links, S-tags and BPDUs included. The run begins once each named pipe
+/// that a port or tap writes has a reader. The gate is asked meanwhile, as for a turn of the first bridge, and may stop
+/// the run.
 ///
-/// After the run ports and taps have time to write the frames that wait in them, as the settings say. An output file to
+/// After a run that has drained, files and pipes are written until they have taken every frame or the gate stops the
+/// run. Then ports and taps have time to write what remains, as the settings say. An output file to
 /// which nothing was written becomes a capture without records, or `errors` reports why it can't. Sockets that ports
 /// made are removed. `errors` names the inputs that are pcapng. After the report it has the losses ([`lost_of`]), the
 /// other dropped frames ([`dropped_of`]), the frames in transit ([`transit_of`]) and those that taps did not write. A

@@ -5,6 +5,7 @@ ghost use Rattle.std.specs.Io.KnownBytes.{Keeps};
 ghost use Rattle.pb_lan.specs.Plans.{IsSound};
 ghost use Rattle.pb_relay.specs.Settled.{TellsSettled};
 ghost use Rattle.pb_cmd_run.specs.Networks.{PrintsReport};
+ghost use Rattle.pb_cmd_run.specs.Unsent.{AreUnsent};
 ghost use Rattle.pb_run_losses.specs.Strict.{lost_text};
 ghost use Rattle.pb_run_losses.specs.declared.strictness.Strictness.TheVariants.{Strict as strict};
 
@@ -14,6 +15,7 @@ use crate::network::show;
 use crate::network_fault::NetworkFault;
 use crate::pcapng::show_pcapng;
 use crate::port_faults::show_port_faults;
+use crate::readers::read_out;
 use crate::report::write_report;
 use crate::taps::show_unwritten;
 use crate::users::Users;
@@ -21,6 +23,7 @@ use pb_frame::Memory;
 use pb_history::Tallies;
 use pb_lan::Plan;
 use pb_run::{Held, Ran, TappedRun};
+use pb_run_control::RunProgress;
 use pb_run_losses::{Strictness, dropped_of, exit_status, is_whole, lost_of, transit_of};
 use std::alloc::Global;
 use std::fs::{File, Files};
@@ -85,6 +88,7 @@ fn tell<W: Write, E: Write>(
     requires settled { IfOk ran.now.settled (TellsSettled plan.now ran.now.counts) }
     requires lasts { length ran.now.last.items ≡ length plan.now.customers }
     requires ports { length ran.now.ports.items ≡ length plan.now.customers }
+    requires unsent { AreUnsent (map (λ b. waiting (b.vtable, b.value)) ran.now.ports.items) ran.now.counts.customers }
     requires lists { length ran.now.counts.customers ≡ length plan.now.customers }
     ensures ok { IfOk result (λ status. PrintsReport strictness plan.now ran.now.counts ran.now.ended ran.now.settled
         ran.now.last.items status
@@ -102,13 +106,13 @@ fn tell<W: Write, E: Write>(
     Ok(exit_status(strictness, is_whole, told))
 }
 
-/// Gives the ports and taps of a run time to write, completes their files, and writes the report and the losses, with
-/// those of taps. Returns the exit status.
+/// Waits for the readers of a run that has drained, and closes the gate. Gives ports and taps time to write, completes
+/// their files, and writes the report and the losses, with those of taps. Returns the exit status.
 ///
 /// # Errors
 ///
 /// Those of [`tell`].
-pub(crate) fn tell_run<R: Files<File = File> + Clock, W: Write, E: Write>(
+pub(crate) fn tell_run<R: Files<File = File> + Clock, G: RunProgress, W: Write, E: Write>(
     rt: &R,
     alloc: Global,
     strictness: Strictness,
@@ -117,6 +121,7 @@ pub(crate) fn tell_run<R: Files<File = File> + Clock, W: Write, E: Write>(
     files: &[CaptureFiles],
     run: TappedRun,
     lingering: Lingering<'_>,
+    gate: &G,
     writer: &mut W,
     errors: &mut E,
 ) -> Result<u8, NetworkFault>
@@ -124,12 +129,15 @@ pub(crate) fn tell_run<R: Files<File = File> + Clock, W: Write, E: Write>(
     requires settled { IfOk run.ran.settled (TellsSettled plan.now run.ran.counts) }
     requires lasts { length run.ran.last.items ≡ length plan.now.customers }
     requires ports { length run.ran.ports.items ≡ length plan.now.customers }
+    requires unsent { AreUnsent (map (λ b. waiting (b.vtable, b.value)) run.ran.ports.items) run.ran.counts.customers }
     requires lists { length run.ran.counts.customers ≡ length plan.now.customers }
     ensures ok { IfOk result (λ status. PrintsReport strictness plan.now run.ran.counts run.ran.ended run.ran.settled
         run.ran.last.items status (W.contents writer.old) (W.contents writer.new)) }
     ensures kinds { IfErr result (λ e. (e ≡ NetworkFault.Write) ⊎ (e ≡ NetworkFault.Memory)) }
     ensures none { IfErr result (λ e. e ≢ NetworkFault.Write → Keeps (W.contents writer.old) (W.contents writer.new)) }
 {
+    let run = read_out(rt, gate, files, run, lingering.traffic);
+    gate.close();
     let TappedRun { ran, mut taps } = lingered(rt, run, lingering);
     complete_all(rt, alloc, users, files, errors);
     let lasts = ran.last.as_slice();

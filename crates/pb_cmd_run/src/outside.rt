@@ -1,9 +1,10 @@
 //! The files and sockets of the ports of a network.
 
-ghost use Rattle.std.specs.Prelude.{◌≡◌, ◌⊎◌, ◌<◌, ◌≤◌, length, map, vec_len, IfOk, IfErr};
+ghost use Rattle.std.specs.Prelude.{◌≡◌, ◌⊎◌, ◌<◌, ◌≤◌, [], All, length, map, vec_len, IfOk, IfErr};
 ghost use Rattle.pb_lan.specs.Plans.{IsSound};
 ghost use Rattle.pb_run_ports.specs.Opened.{script_in, shown};
 ghost use Rattle.pb_cmd_run.specs.Scripted.{script_at};
+ghost use Rattle.pb_cmd_run.specs.Unsent.{waiting_at};
 
 use crate::any_port::AnyPort;
 use crate::completing::CaptureFiles;
@@ -14,8 +15,10 @@ use crate::input::Input;
 use crate::network_fault::NetworkFault;
 use crate::pacing::paced;
 use crate::peer::{Peer, SocketFile, remove_sockets};
+use crate::readers::await_readers;
+use crate::settings::RunSettings;
 use crate::socket_ports::{Attendance, socket_port};
-use crate::system::{Output, System};
+use crate::system::{Output, System, another_input};
 use crate::taps::{SystemTap, TapPlace, put_taps, taps_of};
 use crate::telling::show_open_fault;
 use crate::users::Users;
@@ -26,7 +29,7 @@ use bytes::Bytes;
 use pb_frame::Seq;
 use pb_lan::{Limits, Plan};
 use pb_port::{MemoryPort, Over, SocketPort, StayingPort, Timescale};
-use pb_run_control::Traffic;
+use pb_run_control::{RunProgress, Traffic};
 use pb_run_ports::{Opened, open_all};
 use pb_service::{PortSpec, TapSpec};
 use std::alloc::{AllocError, Global};
@@ -95,7 +98,8 @@ fn port_of(
     duty: &mut Attendance,
 ) -> Result<SystemPort, AllocError>
     requires { (0 < capacity) × (capacity ≤ 4096) }
-    ensures { IfOk result (λ port. script_at port ≡ (shown opened).frames) }
+    ensures script { IfOk result (λ port. script_at port ≡ (shown opened).frames) }
+    ensures fresh { IfOk result (λ port. waiting_at port ≡ []) }
 {
     let number = number_at(place);
     let (clocks, doors) = (&mut duty.clocks, &mut duty.doors);
@@ -178,6 +182,7 @@ fn ports_of(
     ensures count { IfOk result (λ ports. vec_len ports ≡ length plan.now.customers) }
     ensures scripts { IfOk result (λ ports. map (λ w. script_at w.port) ports.items
         ≡ map (λ port. (shown port).frames) opened.items) }
+    ensures fresh { IfOk result (λ ports. All (λ w. waiting_at w.port ≡ []) ports.items) }
 {
     let mut ports = Vec::new(alloc);
     for port in opened {
@@ -203,10 +208,10 @@ fn ports_of(
 ///
 /// `Path` if a file or socket can't be opened or a file has two uses, `Memory` if an allocation failed. Sockets that
 /// were made are removed then. There are no other errors.
-fn open_system<R: Files<File = File> + Net, E: Write>(
+fn open_system<R: Files<File = File> + Net + Clock, E: Write>(
     rt: &R,
     alloc: Global,
-    plan_path: &str,
+    settings: &RunSettings<'_>,
     users: Users<'_>,
     specs: Vec<PortSpec>,
     errors: &mut E,
@@ -219,9 +224,10 @@ fn open_system<R: Files<File = File> + Net, E: Write>(
     let mut system = System {
         rt,
         alloc,
+        input: another_input(&settings.input),
         sockets: Vec::new(alloc),
     };
-    match open_all(alloc, &mut system, plan_path, specs) {
+    match open_all(alloc, &mut system, settings.plan, specs) {
         Ok(opened) => {
             let System { sockets, .. } = system;
             Ok(OpenSystem { opened, sockets })
@@ -249,10 +255,10 @@ struct OpenParts {
 ///
 /// `Path` if a file or socket can't be opened or a file has two uses, `Memory` if an allocation failed. Sockets that
 /// were made are removed then. There are no other errors.
-fn open_parts<R: Files<File = File> + Net, E: Write>(
+fn open_parts<R: Files<File = File> + Net + Clock, E: Write>(
     rt: &R,
     alloc: Global,
-    plan_path: &str,
+    settings: &RunSettings<'_>,
     users: Users<'_>,
     specs: Vec<PortSpec>,
     taps: Vec<TapSpec>,
@@ -267,7 +273,7 @@ fn open_parts<R: Files<File = File> + Net, E: Write>(
     let mut all = specs;
     let mut places = Vec::new(alloc);
     put_taps(&mut all, &mut places, taps)?;
-    let system = open_system(rt, alloc, plan_path, users, all, errors)?;
+    let system = open_system(rt, alloc, settings, users, all, errors)?;
     let OpenSystem { opened, sockets } = system;
     let mut ports = opened;
     match ports.split_off(count) {
@@ -284,23 +290,24 @@ fn open_parts<R: Files<File = File> + Net, E: Write>(
     }
 }
 
-/// Opens the ports and taps of a plan that was read at `plan_path`. The frames of ports are counted in `traffic`. The
-/// gate attends to their sockets.
+/// Opens the ports and taps of a plan that was read at the path of the settings, and waits until their pipes have
+/// readers or the gate stops the run. The frames of ports are counted in `traffic`. `duty` has their sockets.
 ///
 /// # Errors
 ///
 /// `Path` if a file or socket can't be opened or a file has two uses, with a line in `errors`. `Memory` if an
 /// allocation failed. Sockets that were made are removed then. There are no other errors.
-pub(crate) fn open_ports<R: Files<File = File> + Net + Clock, E: Write>(
+pub(crate) fn open_ports<R: Files<File = File> + Net + Clock, G: RunProgress, E: Write>(
     rt: &R,
     alloc: Global,
-    plan_path: &str,
+    settings: &RunSettings<'_>,
     plan: &Plan,
     users: Users<'_>,
     specs: Vec<PortSpec>,
     taps: Vec<TapSpec>,
     limits: Limits,
     traffic: &Arc<Traffic, Global>,
+    gate: &G,
     duty: &mut Attendance,
     errors: &mut E,
 ) -> Result<Outside, NetworkFault>
@@ -309,17 +316,20 @@ pub(crate) fn open_ports<R: Files<File = File> + Net + Clock, E: Write>(
     ensures count { IfOk result (λ outside. vec_len outside.ports ≡ length plan.now.customers) }
     ensures scripts { IfOk result (λ outside. map (λ w. script_at w.port) outside.ports.items
         ≡ map script_in specs.items) }
+    ensures fresh { IfOk result (λ outside. All (λ w. waiting_at w.port ≡ []) outside.ports.items) }
     ensures err { IfErr result (λ e. (e ≡ NetworkFault.Path) ⊎ (e ≡ NetworkFault.Memory)) }
 {
-    let parts = open_parts(rt, alloc, plan_path, users, specs, taps, errors)?;
+    let parts = open_parts(rt, alloc, settings, users, specs, taps, errors)?;
     let OpenParts {
         ports: opened,
         taps: recorded,
         places,
         sockets,
     } = parts;
-    let day = day_scale(rt, limits.tick_ms);
     let first = opened.len();
+    await_readers(rt, alloc, gate, users, 0, opened.as_slice());
+    await_readers(rt, alloc, gate, users, first, recorded.as_slice());
+    let day = day_scale(rt, limits.tick_ms);
     let mut files = Vec::new(alloc);
     let ports = ports_of(rt, alloc, plan, day, opened, traffic, &mut files, duty);
     let taps = taps_of(alloc, first, places.as_slice(), day, recorded, &mut files);

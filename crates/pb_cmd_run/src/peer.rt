@@ -7,7 +7,7 @@ use mio::net::{UnixListener, UnixStream};
 use pb_control_socket::node_at;
 use pb_frame::Text;
 use std::fs::Files;
-use std::io::{ErrorKind, Read, Write};
+use std::io::{Error, ErrorKind, Read, Write};
 use std::{fs, io};
 
 /// The socket of a port.
@@ -27,6 +27,10 @@ pub(crate) struct Peer {
     path: Option<Text>,
     /// Where the port puts its sockets under watch.
     post: Post,
+    /// Where a port that waits for its peer reports that the peer can't be accepted.
+    door: Option<PortDoor>,
+    /// Whether it has reported that.
+    has_told: bool,
 }
 
 impl Peer {
@@ -36,6 +40,8 @@ impl Peer {
             socket: Socket::Here(stream),
             path,
             post: Post::none(),
+            door: None,
+            has_told: false,
         }
     }
 
@@ -45,6 +51,8 @@ impl Peer {
             socket: Socket::Awaited(listener),
             path: None,
             post: Post::none(),
+            door: None,
+            has_told: false,
         }
     }
 
@@ -55,6 +63,16 @@ impl Peer {
             Socket::Awaited(listener) => post.register(listener),
         }
         self.post = post;
+    }
+
+    /// Checks whether the peer has not connected yet.
+    pub(crate) fn is_awaited(&self) -> bool {
+        matches!(&self.socket, Socket::Awaited(_))
+    }
+
+    /// Has the port report at a door that its peer can't be accepted.
+    pub(crate) fn report_at(&mut self, door: PortDoor) {
+        self.door = Some(door);
     }
 
     /// Takes the path at which the port connects again, if it does.
@@ -71,19 +89,35 @@ impl Peer {
         }
     }
 
+    /// Reports once that the peer can't be accepted, for an error that is not that none waits.
+    fn tell_unaccepted(&mut self, error: &Error) {
+        if let Some(door) = &mut self.door {
+            self.has_told = door.tell_unaccepted(self.has_told, error);
+        }
+    }
+
     /// Accepts the connection of the peer, if it has not connected yet. The listener is closed after that, and no other
     /// peer can connect.
     ///
     /// # Errors
     ///
-    /// The error of the system.
+    /// `WouldBlock` if no peer waits, or it can't be accepted now.
     fn meet(&mut self) -> io::Result<()> {
-        if let Socket::Awaited(listener) = &self.socket {
-            let (mut stream, _) = listener.accept()?;
-            self.post.register(&mut stream);
-            self.socket = Socket::Here(stream);
+        let accepted = match &self.socket {
+            Socket::Here(_) => return Ok(()),
+            Socket::Awaited(listener) => listener.accept(),
+        };
+        match accepted {
+            Ok((mut stream, _)) => {
+                self.post.register(&mut stream);
+                self.socket = Socket::Here(stream);
+                Ok(())
+            }
+            Err(error) => {
+                self.tell_unaccepted(&error);
+                Err(Error::from(ErrorKind::WouldBlock))
+            }
         }
-        Ok(())
     }
 }
 

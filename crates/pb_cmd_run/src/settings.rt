@@ -1,7 +1,9 @@
 //! The settings of a run outside its plan file.
 
+use std::os::fd::OwnedFd;
+
 /// The settings of a run outside its plan file. No guarantee about a run depends on them.
-#[derive(Clone, Copy)]
+#[derive(Drop)]
 pub struct RunSettings<'a> {
     /// The path of the plan file.
     pub plan: &'a str,
@@ -9,6 +11,9 @@ pub struct RunSettings<'a> {
     pub control: Option<&'a str>,
     /// Whether frames wait until the bridges have converged.
     pub settles: bool,
-    /// The maximum time, in milliseconds, in which ports write waiting frames after the run.
+    /// The maximum time, in milliseconds, in which ports write waiting frames after the run. A run that has drained
+    /// waits for the readers of pipes before that.
     pub linger: u32,
+    /// A handle of standard input, which ports read whose path is `-`. If it is left out, it is opened by its path.
+    pub input: Option<OwnedFd>,
 }

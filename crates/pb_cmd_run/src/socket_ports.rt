@@ -1,7 +1,8 @@
 //! Ports over sockets.
 
-ghost use Rattle.std.specs.Prelude.{◌≡◌, ◌<◌, ◌≤◌, None, IfOk};
+ghost use Rattle.std.specs.Prelude.{◌≡◌, ◌<◌, ◌≤◌, [], None, IfOk};
 ghost use Rattle.pb_cmd_run.specs.Scripted.{script_at};
+ghost use Rattle.pb_cmd_run.specs.Unsent.{waiting_at};
 
 use crate::any_port::AnyPort;
 use crate::door::{GateDoor, make_door};
@@ -32,8 +33,8 @@ impl Attendance {
     }
 }
 
-/// Returns the port of this number over a socket, which is put under watch. If the port stays, its peers come and go,
-/// and the gate's side of its door is appended to `doors`.
+/// Returns the port of this number over a socket, which is put under watch. If the port stays, its peers come and go.
+/// If they do, or the port waits for its peer, the gate's side of its door is appended to `doors`.
 ///
 /// # Errors
 ///
@@ -48,11 +49,17 @@ pub(crate) fn socket_port(
     doors: &mut Vec<GateDoor>,
 ) -> Result<SystemPort, AllocError>
     requires { (0 < capacity) × (capacity ≤ 4096) }
-    ensures { IfOk result (λ port. script_at port ≡ None) }
+    ensures script { IfOk result (λ port. script_at port ≡ None) }
+    ensures fresh { IfOk result (λ port. waiting_at port ≡ []) }
 {
     let mut peer = peer;
     peer.watch(post);
     if !stays {
+        if peer.is_awaited() {
+            let (inside, outside) = make_door(alloc, number, None)?;
+            doors.push(outside)?;
+            peer.report_at(inside);
+        }
         let port = SocketPort::new(alloc, capacity, Over::new(peer));
         return Ok(AnyPort::Socket(port));
     }

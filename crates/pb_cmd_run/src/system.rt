@@ -2,6 +2,7 @@
 
 use crate::input::{Input, input_path, open_input};
 use crate::peer::{Peer, SocketFile};
+use crate::pipe::open_unwaiting;
 use mio::net::UnixStream;
 use pb_control_socket::{listen, node_at};
 use pb_frame::{Memory, Text};
@@ -10,8 +11,10 @@ use std::alloc::{AllocError, Global};
 use std::fs::{File, Files, Metadata, OpenOptions};
 use std::io::ErrorKind;
 use std::net::Net;
+use std::os::fd::OwnedFd;
 use std::os::unix::fs::{FileTypeExt, MetadataExt};
 use std::path::Path;
+use std::time::Clock;
 use std::{fs, io};
 
 /// The operating system as an opener of files and sockets.
@@ -19,8 +22,18 @@ use std::{fs, io};
 pub(crate) struct System<'a, R> {
     pub rt: &'a R,
     pub alloc: Global,
+    /// Standard input, if it need not be opened by its path.
+    pub input: Option<OwnedFd>,
     /// The sockets that were made, or whose making was tried.
     pub sockets: Vec<SocketFile>,
+}
+
+/// Returns another handle of standard input, if it is given and the system makes one.
+pub(crate) fn another_input(input: &Option<OwnedFd>) -> Option<OwnedFd> {
+    match input {
+        Some(input) => input.try_clone().ok(),
+        None => None,
+    }
 }
 
 /// A file that is written.
@@ -32,6 +45,8 @@ pub(crate) struct Output {
     pub twin: File,
     /// Whether the file was made when it was opened.
     pub is_made: bool,
+    /// Whether it is a pipe or a device, so that its writes don't block.
+    pub is_pipe: bool,
 }
 
 /// Returns the device number and the inode of a file, as a text.
@@ -103,7 +118,7 @@ fn remove_made(rt: &impl Files, path: &str, is_made: bool) {
     }
 }
 
-impl<R: Files<File = File> + Net> Openings for System<'_, R> {
+impl<R: Files<File = File> + Net + Clock> Openings for System<'_, R> {
     type Input = Input;
 
     type Output = Output;
@@ -116,7 +131,7 @@ impl<R: Files<File = File> + Net> Openings for System<'_, R> {
     }
 
     fn open_read(&mut self, path: &str) -> io::Result<Input> {
-        open_input(self.rt, path)
+        open_input(self.rt, path, self.input.as_ref())
     }
 
     fn connect(&mut self, path: &str, stays: bool) -> io::Result<Peer> {
@@ -143,12 +158,22 @@ impl<R: Files<File = File> + Net> Openings for System<'_, R> {
     }
 
     fn open_write(&mut self, path: &str) -> io::Result<Output> {
+        if let Some(file) = open_unwaiting(self.rt, path)? {
+            let twin = file.try_clone()?;
+            return Ok(Output {
+                file,
+                twin,
+                is_made: false,
+                is_pipe: true,
+            });
+        }
         let (file, is_made) = open_or_make(self.rt, path)?;
         match file.try_clone() {
             Ok(twin) => Ok(Output {
                 file,
                 twin,
                 is_made,
+                is_pipe: false,
             }),
             Err(e) => {
                 remove_made(self.rt, path, is_made);
@@ -158,9 +183,9 @@ impl<R: Files<File = File> + Net> Openings for System<'_, R> {
     }
 
     fn empty(&mut self, output: &Output, _path: &str) -> io::Result<()> {
-        let metadata = output.file.metadata()?;
+        let metadata = output.twin.metadata()?;
         if metadata.is_file() && metadata.len() != 0 {
-            output.file.set_len(0)?;
+            output.twin.set_len(0)?;
         }
         Ok(())
     }

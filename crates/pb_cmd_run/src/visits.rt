@@ -2,12 +2,12 @@
 
 ghost use Rattle.std.specs.Prelude.{◌≡◌};
 
-use crate::door::PortDoor;
+use crate::door::{PortDoor, may_wait};
 use crate::watch::Post;
 use mio::net::{UnixListener, UnixStream};
 use pb_port::{Device, Got, Line, Parting};
 use pb_run_control::PeerChange;
-use std::io::{Error, ErrorKind, Read, Write};
+use std::io::{Read, Write};
 
 /// The stream of a port that stays: its peer, if one is there, and the way in which the next one comes.
 ///
@@ -24,11 +24,8 @@ pub(crate) struct Visits {
     post: Post,
     /// Whether a write to the peer failed.
     is_broken: bool,
-}
-
-/// Checks whether a call that ended with this error is to be repeated later.
-fn may_wait(error: &Error) -> bool {
-    matches!(error.kind(), ErrorKind::Interrupted | ErrorKind::WouldBlock)
+    /// Whether a peer that waits could not be accepted, and the port reported that.
+    has_told: bool,
 }
 
 impl Visits {
@@ -46,6 +43,7 @@ impl Visits {
             door,
             post,
             is_broken: false,
+            has_told: false,
         };
         if let Some(peer) = peer {
             visits.welcome(peer);
@@ -66,9 +64,16 @@ impl Visits {
             return None;
         }
         let mut peer = match &self.listener {
-            Some(listener) => listener.accept().ok()?.0,
             None => self.door.next()?,
+            Some(listener) => match listener.accept() {
+                Ok((peer, _)) => peer,
+                Err(error) => {
+                    self.has_told = self.door.tell_unaccepted(self.has_told, &error);
+                    return None;
+                }
+            },
         };
+        self.has_told = false;
         self.post.register(&mut peer);
         Some(peer)
     }

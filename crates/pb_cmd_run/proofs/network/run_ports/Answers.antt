@@ -5,8 +5,10 @@ use Rattle.std.proofs.lemmas.Simd.{map-map}
 use Rattle.std.specs.Vec.Iter.{into_iter_items}
 use Rattle.pb_workers.specs.Ports.{PortFrames, port_frames}
 use Rattle.pb_cmd_run.specs.Scripted.{script_at}
+use Rattle.pb_cmd_run.specs.Unsent.{waiting_at}
 use Rattle.pb_run_ports.proofs.MoveLemmas.{moved_over}
 use Rattle.pb_cmd_run.proofs.NetworkLemmas.{on_value, are_scripted, all_moved}
+use Rattle.pb_cmd_run.proofs.UnsentLemmas.{are_unsent}
 use Rattle.pb_cmd_run.proofs.network.run_ports.OwnLists.{own-1, at-1-1}
 use Rattle.pb_cmd_run.proofs.network.run_ports.Goals as goal
 
@@ -20,7 +22,23 @@ loop-port-preserved g c = record {
       (read_made own-1 (own-1.entry at-1-1) at-1-1 refl _ (λ e port. e.1.script port) c.into_dyn_box.result.vtable
       c.into_dyn_box.result.value c.in_ok-new.field-0.value
       c.into_dyn_box.ensures.1 ∙ ap (λ w. script_at w.port) c.in_ok-new.ensures.ok);
+  waits = moved_over (λ b. (own-1.entry b.vtable).1.waiting b.value) c.loop-port.held.items c.push.new.self.items
+      c.into_dyn_box.result (λ w. waiting_at w.port)
+      (into_iter_items c.loop-port.port-iterator) (into_iter_items c.next.new.self) c.in-Some.port _
+      c.loop-port.invariant.waits c.in_ok-push.ensures.items c.in-Some.ensures.steps.0
+      (read_made own-1 (own-1.entry at-1-1) at-1-1 refl _ (λ e port. e.1.waiting port) c.into_dyn_box.result.vtable
+      c.into_dyn_box.result.value c.in_ok-new.field-0.value
+      c.into_dyn_box.ensures.1 ∙ ap (λ w. waiting_at w.port) c.in_ok-new.ensures.ok);
 }
+
+pub tell_run-requires-clause-unsent : goal.tell_run-requires-clause-unsent
+tell_run-requires-clause-unsent g c κs met =
+    let ran = c.in-Ok.run'.ran in
+    are_unsent (λ w. waiting_at w.port) c.args.ports.items (λ b. port_frames (own-1.entry b.vtable).1 b.value)
+    c.loop-port.held.items ran.ports.items ran.counts.customers ran.last.items c.in-Ok.ensures.run.ports
+    (all_moved (λ b. (own-1.entry b.vtable).1.waiting b.value) c.loop-port.held.items (λ w. waiting_at w.port)
+    (into_iter_items c.loop-port.port-iterator) (into_iter_items c.into_iter-port-iterator.result) c.args.ports.items
+    c.loop-port.invariant.waits (search rules) (search rules)) c.requires.fresh
 
 pub returns-in-Ok-clause-ok : goal.returns-in-Ok-clause-ok
 returns-in-Ok-clause-ok g c =

@@ -12,6 +12,7 @@ returns-clause-ok g c = record {
   unsent = map (λ b. (goal.Port-dyn g (b.vtable, b.value)).waiting b.value) c.as_slice-ports.result.now;
   unsent_count = length-map c.as_slice-ports.result.now (λ b. (goal.Port-dyn g (b.vtable, b.value)).waiting b.value)
       ∙ search rules;
+  unsent_is = rw c.as_slice-ports.ensures.value c.requires.unsent;
   status_is = exits _ _ _ _ _ _ _ c.exit_status.ensures c.is_whole-is_whole.ensures
       (λ e. c.as_str-2.ensures.value ∙ c.in_ok-lost.ensures.ok e);
 }

@@ -1,0 +1,8 @@
+use Rattle.pb_cmd_run.proofs.UnsentLemmas.{have_on}
+use Rattle.pb_cmd_run.proofs.linger.write_on.Goals as goal
+
+pub returns-in-Over : goal.returns-in-Over
+returns-in-Over g c = have_on c.loop.invariant c.try_all-came.ensures
+
+pub loop-preserved : goal.loop-preserved
+loop-preserved g c = have_on c.loop.invariant c.try_all-came.ensures

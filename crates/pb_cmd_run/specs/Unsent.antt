@@ -1,0 +1,32 @@
+-- The frames that ports hold after a run.
+use Rattle.std.specs.Prelude.{ℕ, List, [], unwrap_or}
+use Rattle.pb_lan.specs.Counts.{left}
+use Rattle.pb_lan.specs.Numbering.{numbered}
+use Rattle.pb_lan.specs.Records.{steps_of}
+use Rattle.pb_lan.specs.declared.step.Step.{Step}
+use Rattle.pb_port.specs.declared.capture.CapturePort.{CapturePort}
+use Rattle.pb_port.specs.declared.memory.MemoryPort.{MemoryPort}
+use Rattle.pb_port.specs.declared.socket.SocketPort.{SocketPort}
+use Rattle.pb_port.specs.declared.staying.StayingPort.{StayingPort}
+use Rattle.pb_workers.specs.Ports.{Frames, HasSent}
+use Rattle.pb_cmd_run.specs.AnyPorts.{of_any}
+use Rattle.pb_cmd_run.specs.declared.any_port.AnyPort.{AnyPort}
+
+-- the frames that wait in a port
+abbrev pub waiting_at : {R W S L : Type 0} → AnyPort MemoryPort (CapturePort R W) (SocketPort S) (StayingPort L)
+    → Frames
+waiting_at {R} {W} {S} {L} = of_any (λ (port : MemoryPort). port.unsent.items)
+    (λ (port : CapturePort R W). port.sender.unsent.items) (λ (port : SocketPort S). port.sender.unsent.items)
+    (λ (port : StayingPort L). port.sender.unsent.items)
+
+-- the frames that wait in the port of this number
+abbrev pub waiting_of : List Frames → ℕ → Frames
+waiting_of lists number = unwrap_or (numbered lists number) []
+
+-- of the frames that left at each port the first were sent, and its port holds the others
+pub record AreUnsent (unsent : List Frames) (customers : List (List Step)) : Type 0 where
+  pub each : (number : ℕ) → HasSent (left (steps_of customers number)) (waiting_of unsent number)
+
+-- of the frames that waited in each port the first were sent, and the others wait
+pub record HaveSent (before after : List Frames) : Type 0 where
+  pub each : (number : ℕ) → HasSent (waiting_of before number) (waiting_of after number)
