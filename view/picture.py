@@ -13,8 +13,8 @@ TITLES = {
     "service": re.compile(rf"service {NAME}, VID (\d+)"),
 }
 SHIFT = re.compile(r"translate\((-?[\d.]+) (-?[\d.]+)\)")
-# A link is one curve from its end a to its end b.
-CURVE = re.compile(r"M(-?[\d.]+) (-?[\d.]+)C(?:-?[\d.]+ ){5}(-?[\d.]+)")
+# A link is one curve from its end a to its end b, or a curve, a vertical line and a curve.
+CURVE = re.compile(r"M(-?[\d.]+) (-?[\d.]+)C[-\d. CV]* (-?[\d.]+) (-?[\d.]+)")
 # The colour of a service, and the pattern that tells services of one colour apart.
 COLOURS = re.compile(r"c\d+ d\d+")
 
@@ -80,11 +80,10 @@ def read_link(group, ends):
     """Returns a link with its curve and the places of its ends and of its name."""
     name, a, a_port, a_state, b, b_port, b_state, losses = title_of(group, "link")
     curve = group.find(f"{SVG}path").get("d")
-    points = [float(it) for it in CURVE.fullmatch(curve).groups()[:2]]
-    last = [float(it) for it in curve.split("C")[1].split(" ")[-2:]]
+    points = [float(it) for it in CURVE.fullmatch(curve).groups()]
     numbers = [[float(it.get("x")), float(it.get("y"))] for it in ends.findall(f"{SVG}text")]
     label = ends.find(f"{SVG}g")
-    sides = zip((a, b), (a_port, b_port), (a_state, b_state), (points, last), numbers, strict=True)
+    sides = zip((a, b), (a_port, b_port), (a_state, b_state), (points[:2], points[2:]), numbers, strict=True)
     return {
         "name": name,
         "curve": curve,

@@ -1,5 +1,5 @@
 -- A scene as a graph in the language DOT.
-use Rattle.std.specs.Prelude.{ℕ, Bool, true, false, List, [], ◌++◌, ◌==◌, if◌then◌else◌, unwrap_or, flat_map, codes}
+use Rattle.std.specs.Prelude.{ℕ, List, [], ◌++◌, ◌==◌, if◌then◌else◌, unwrap_or, flat_map, codes}
 use Rattle.std.specs.Fmt.{decimal}
 use Rattle.std.specs.Option.{option_map}
 use Rattle.pb_lan.specs.Numbering.{numbered}
@@ -14,7 +14,10 @@ use Rattle.pb_cmd_draw.specs.Titles.{bridge_words, link_words, port_words}
 use Rattle.pb_cmd_draw.specs.Words.{losing_word, colour_of}
 use Rattle.pb_draw_layout.specs.declared.facts.Tone.{Tone}
 use Rattle.pb_draw_layout.specs.declared.facts.Tone.TheVariants.{Plain, Lit, Faint}
+use Rattle.pb_draw_layout.specs.declared.facts.BridgeFacts.{BridgeFacts}
 use Rattle.pb_draw_layout.specs.declared.facts.LinkFacts.{LinkFacts}
+use Rattle.pb_draw_layout.specs.declared.facts.LinkState.{LinkState}
+use Rattle.pb_draw_layout.specs.declared.facts.LinkState.TheVariants.{Active, Standby, Failed}
 use Rattle.pb_draw_layout.specs.declared.facts.PortFacts.{PortFacts}
 use Rattle.pb_draw_layout.specs.declared.scene.BridgeMark.{BridgeMark}
 use Rattle.pb_draw_layout.specs.declared.scene.LinkMark.{LinkMark}
@@ -27,10 +30,11 @@ tone_style Plain = codes "\"];\n"
 tone_style Lit = codes "\", penwidth=3];\n"
 tone_style Faint = codes "\", color=gray80, fontcolor=gray60];\n"
 
--- a link that is not active is dashed and grey
-abbrev pub active_style : Bool → List ℕ
-active_style true = []
-active_style false = codes "style=dashed, color=gray50, "
+-- a link on standby is dashed and grey, and one that has failed is red
+abbrev pub active_style : LinkState → List ℕ
+active_style Active = []
+active_style Standby = codes "style=dashed, color=gray50, "
+active_style Failed = codes "color=red, fontcolor=red, "
 
 -- the arrow shape for the state of a link's end
 abbrev pub arrow_word : PortState → List ℕ
@@ -45,13 +49,18 @@ colour_code colour =
     else if colour == 3 then codes "#cc79a7" else if colour == 4 then codes "#56b4e9" else if colour == 5 then codes "#d55e00"
     else if colour == 6 then codes "#aa4499" else codes "#999933"
 
+-- the box of a bridge that has failed is red, and that of a root has a double line
+abbrev pub node_style : BridgeFacts → List ℕ
+node_style facts = if facts.is_failed then codes "color=red, fontcolor=red, " else if facts.is_root then codes "peripheries=2, " else []
+
 -- the beginning of a bridge's node
-abbrev pub node_head : ℕ → List ℕ → List ℕ
-node_head number name = codes "b" ++ decimal number ++ codes " [shape=box, label=\"" ++ name ++ codes "\", tooltip=\""
+abbrev pub node_head : BridgeFacts → List ℕ → List ℕ
+node_head facts name =
+    codes "b" ++ decimal facts.number ++ codes " [shape=box, " ++ node_style facts ++ codes "label=\"" ++ name ++ codes "\", tooltip=\""
 
 -- the node of a bridge
 abbrev pub known_node : BridgePlan → BridgeMark → List ℕ
-known_node b mark = node_head mark.facts.number b.name ++ bridge_words b ++ tone_style mark.facts.tone
+known_node b mark = node_head mark.facts b.name ++ bridge_words b ++ tone_style mark.facts.tone
 
 -- the node of the bridge with the mark's number
 abbrev pub bridge_node : Plan → BridgeMark → List ℕ
@@ -65,7 +74,7 @@ edge_ends link =
 
 -- the arrows of a link's edge, by the states of its ends, and its style
 abbrev pub arrows_text : LinkFacts → List ℕ
-arrows_text facts = codes "arrowtail=" ++ arrow_word facts.a ++ codes ", arrowhead=" ++ arrow_word facts.b ++ codes ", " ++ active_style facts.active
+arrows_text facts = codes "arrowtail=" ++ arrow_word facts.a ++ codes ", arrowhead=" ++ arrow_word facts.b ++ codes ", " ++ active_style facts.state
 
 -- the label of a link's edge
 abbrev pub edge_label : LinkPlan → List ℕ

@@ -18,6 +18,8 @@ use Rattle.pb_converge.specs.Drives.{HasRested, ReachesLimit}
 use Rattle.pb_converge.specs.declared.rest.Rest.{Rest}
 use Rattle.pb_cmd_draw.specs.Dot.{dot_text}
 use Rattle.pb_draw_layout.specs.Scenes.{IsSceneOf}
+use Rattle.pb_draw_layout.specs.declared.facts.Failures.{Failures}
+use Rattle.pb_cmd_draw.specs.Failures.{failures_of}
 use Rattle.pb_cmd_draw.specs.Svg.{svg_text}
 use Rattle.pb_cmd_draw.specs.declared.asked.Asked.{Asked}
 use Rattle.pb_cmd_draw.specs.declared.end.Format.{Format}
@@ -41,21 +43,22 @@ abbrev pub picture_text : Format → Plan → Scene → List ℕ
 picture_text Svg plan scene = svg_text plan scene
 picture_text Dot plan scene = dot_text plan scene
 
--- the picture of each part of the network, as it is in the shape, with this service highlighted or none
-pub record IsPictureOf (plan : Plan) (shape : Shape) (chosen : Option ℕ) (format : Format) (text : List ℕ) : Type 0 where
+-- the picture of each part of the network, as it is in the shape and with these failures, with this service highlighted
+-- or none
+pub record IsPictureOf (plan : Plan) (shape : Shape) (chosen : Option ℕ) (failed : Failures) (format : Format) (text : List ℕ) : Type 0 where
   pub scene : Scene
-  pub is_scene : IsSceneOf plan shape chosen scene
+  pub is_scene : IsSceneOf plan shape chosen failed scene
   pub text_is : text ≡ picture_text format plan scene
 
 -- each bridge ticks at most so many times, and the picture has the states at the end, which are those of a lawful record
--- in which no allocation failed
+-- in which no allocation failed, and shows what the names disable as failed
 pub record IsDrawingFrom (plan : Plan) (asked : Asked) (fallen : NetView) (rest : Rest) (text : List ℕ) : Type 0 where
   pub last : NetView
   pub rested : HasRested asked.ticks 1000000000 rest fallen last
   pub planned : last.plan ≡ plan
   pub lawful : IsLawfulRecord spanning_tree plan last.rec
   pub enough : HasEnoughMemory last.rec
-  pub picture : IsPictureOf plan (last_shape plan last.rec) (chosen_of plan asked.service) asked.format text
+  pub picture : IsPictureOf plan (last_shape plan last.rec) (chosen_of plan asked.service) (failures_of plan asked.downs.now) asked.format text
 
 -- what the names disable is disabled first
 pub record IsDrawing (plan : Plan) (asked : Asked) (rest : Rest) (text : List ℕ) : Type 0 where

@@ -2,6 +2,8 @@ pub mod Words
 pub mod Titles
 pub mod SvgLinks
 pub mod SvgBoxes
+pub mod SvgKeys
 pub mod Svg
 pub mod Dot
+pub mod Failures
 pub mod Draws

@@ -4,6 +4,7 @@ use Rattle.std.specs.Fmt.{decimal}
 use Rattle.std.specs.declared.option.Option.{Option}
 use Rattle.pb_lan.specs.declared.plan.Plan.{Plan}
 use Rattle.pb_cmd_draw.specs.SvgBoxes.{bridge_element, port_element, service_element}
+use Rattle.pb_cmd_draw.specs.SvgKeys.{key_element}
 use Rattle.pb_cmd_draw.specs.SvgLinks.{link_element, ends_element}
 use Rattle.pb_cmd_draw.specs.Words.{colour_of}
 use Rattle.pb_draw_layout.specs.declared.scene.Point.{Point}
@@ -35,13 +36,17 @@ head_text scene =
     opening_text scene.size ++ counts_text scene ++ STYLE.now ++ ground_text scene.size ++ group_text scene.chosen
 
 -- an element for each part, in order; links have two: their lines come first, and their names and ends after the boxes
-abbrev pub elements_text : Plan → Scene → List ℕ
-elements_text plan scene =
+abbrev pub parts_text : Plan → Scene → List ℕ
+parts_text plan scene =
     flat_map (link_element plan) scene.links
     ++ flat_map (bridge_element plan) scene.bridges
     ++ flat_map (port_element plan) scene.ports
     ++ flat_map (ends_element plan) scene.links
-    ++ flat_map (service_element plan) scene.services
+
+-- those, and the legend
+abbrev pub elements_text : Plan → Scene → List ℕ
+elements_text plan scene =
+    parts_text plan scene ++ flat_map key_element scene.keys ++ flat_map (service_element plan) scene.services
 
 -- the picture
 abbrev pub svg_text : Plan → Scene → List ℕ

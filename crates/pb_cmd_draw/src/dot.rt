@@ -1,15 +1,17 @@
 //! A scene as a graph for Graphviz.
 
 ghost use Rattle.std.specs.Prelude.{◌≡◌, ◌++◌, flat_map, string_bytes, OnOk};
-ghost use Rattle.pb_cmd_draw.specs.Dot.{tone_style, active_style, arrow_word, colour_code, node_head, known_node};
-ghost use Rattle.pb_cmd_draw.specs.Dot.{bridge_node, edge_ends, arrows_text, edge_label, edge_head, known_edge};
-ghost use Rattle.pb_cmd_draw.specs.Dot.{link_edge, leaf_edge, leaf_head, leaf_node, known_leaf, port_node, parts_text};
-ghost use Rattle.pb_cmd_draw.specs.Dot.{dot_text};
+ghost use Rattle.pb_cmd_draw.specs.Dot.{tone_style, active_style, arrow_word, colour_code, node_style, node_head};
+ghost use Rattle.pb_cmd_draw.specs.Dot.{known_node, bridge_node, edge_ends, arrows_text, edge_label, edge_head};
+ghost use Rattle.pb_cmd_draw.specs.Dot.{known_edge, link_edge, leaf_edge, leaf_head, leaf_node, known_leaf, port_node};
+ghost use Rattle.pb_cmd_draw.specs.Dot.{parts_text, dot_text};
 ghost use Rattle.pb_cmd_draw.specs.Words.{colour_of};
 
 use crate::titles::{put_bridge_words, put_link_words, put_port_words};
 use crate::words::{colour_of, losing_word};
-use pb_draw_layout::{BridgeMark, LinkFacts, LinkMark, PortFacts, PortMark, Scene, Tone};
+use pb_draw_layout::{
+    BridgeFacts, BridgeMark, LinkFacts, LinkMark, LinkState, PortFacts, PortMark, Scene, Tone,
+};
 use pb_forest::numbered;
 use pb_frame::Memory;
 use pb_lan::{BridgePlan, CustomerPlan, LinkPlan, Plan, PortState};
@@ -35,14 +37,14 @@ fn put_tone(out: &mut String, tone: Tone) -> Result<(), Memory>
     Ok(())
 }
 
-/// Returns the style of a link that is active or not.
-fn active_style(active: bool) -> &'static str
-    ensures { result.now ≡ active_style active }
+/// Returns the style of a link in this state.
+fn active_style(state: LinkState) -> &'static str
+    ensures { result.now ≡ active_style state }
 {
-    if active {
-        ""
-    } else {
-        "style=dashed, color=gray50, "
+    match state {
+        LinkState::Active => "",
+        LinkState::Standby => "style=dashed, color=gray50, ",
+        LinkState::Failed => "color=red, fontcolor=red, ",
     }
 }
 
@@ -73,11 +75,29 @@ fn colour_code(service: u8) -> &'static str
     }
 }
 
-/// Appends the beginning of a bridge's node.
-fn put_node_head(out: &mut String, number: u8, name: &str) -> Result<(), Memory>
-    ensures { OnOk result (string_bytes out.new ≡ string_bytes out.old ++ node_head number name.now) }
+/// Returns the style of a bridge's box: red if the bridge has failed, with a double line if it is a root.
+fn node_style(facts: BridgeFacts) -> &'static str
+    ensures { result.now ≡ node_style facts }
 {
-    write!(out, "b{number} [shape=box, label=\"{name}\", tooltip=\"")?;
+    if facts.is_failed {
+        "color=red, fontcolor=red, "
+    } else if facts.is_root {
+        "peripheries=2, "
+    } else {
+        ""
+    }
+}
+
+/// Appends the beginning of a bridge's node.
+fn put_node_head(out: &mut String, facts: BridgeFacts, name: &str) -> Result<(), Memory>
+    ensures { OnOk result (string_bytes out.new ≡ string_bytes out.old ++ node_head facts name.now) }
+{
+    let number = facts.number;
+    let style = node_style(facts);
+    write!(
+        out,
+        "b{number} [shape=box, {style}label=\"{name}\", tooltip=\""
+    )?;
     Ok(())
 }
 
@@ -90,7 +110,7 @@ fn put_known_node(
 ) -> Result<(), Memory>
     ensures { OnOk result (string_bytes out.new ≡ string_bytes out.old ++ known_node bridge.now mark.now) }
 {
-    put_node_head(out, mark.facts.number, bridge.name.as_str())?;
+    put_node_head(out, mark.facts, bridge.name.as_str())?;
     put_bridge_words(alloc, out, bridge)?;
     put_tone(out, mark.facts.tone)
 }
@@ -124,7 +144,7 @@ fn put_arrows(out: &mut String, facts: LinkFacts) -> Result<(), Memory>
 {
     let tail = arrow_word(facts.a);
     let head = arrow_word(facts.b);
-    let style = active_style(facts.active);
+    let style = active_style(facts.state);
     write!(out, "arrowtail={tail}, arrowhead={head}, {style}")?;
     Ok(())
 }
@@ -287,8 +307,8 @@ fn put_parts(alloc: Global, out: &mut String, plan: &Plan, scene: &Scene) -> Res
 /// Appends a scene of a plan as a graph in the language DOT of Graphviz.
 ///
 /// Bridges are boxes, customer ports ellipses in the colour of their service, links edges between bridges. The edge
-/// ends in a square at a Discarding port, in a circle at a Learning port. A link that is not active is dashed and grey.
-/// Graphviz computes the positions itself.
+/// ends in a square at a Discarding port, in a circle at a Learning port. A link on standby is dashed and grey. A link
+/// or a bridge that has failed is red. The box of a root has a double line. Graphviz computes the positions itself.
 ///
 /// # Errors
 ///

@@ -9,13 +9,15 @@ ghost use Rattle.pb_lan.specs.LastShapes.{last_shape};
 ghost use Rattle.pb_lan.specs.Plans.{IsSound};
 ghost use Rattle.pb_cmd_draw.specs.Draws.{is_found, chosen_of, IsPictureOf, IsDrawingFrom, HasDrawn, HasTold};
 ghost use Rattle.pb_cmd_draw.specs.Draws.{RunsIntoLimit};
+ghost use Rattle.pb_cmd_draw.specs.Failures.{failures_of};
 
 use crate::asked::Asked;
 use crate::dot::put_dot;
 use crate::end::{DrawEnd, Format};
+use crate::failures::failures_of;
 use crate::svg::put_svg;
 use pb_converge::{DriveFault, Rest, disables, fault_of, fresh, settle, shape_of};
-use pb_draw_layout::scene_of;
+use pb_draw_layout::{Failures, scene_of};
 use pb_frame::Memory;
 use pb_lan::{Plan, Record, Shape};
 use pb_messages::{CommandFault, write_whole};
@@ -28,6 +30,17 @@ use std::io::Write;
 
 /// The most events besides ticks until convergence.
 const MOST_EVENTS: u64 = 1_000_000_000;
+
+/// What a picture shows besides the network.
+#[derive(Clone, Copy)]
+struct Shown<'a> {
+    /// The number of the service to highlight, if one is requested.
+    chosen: Option<u8>,
+    /// What has failed.
+    failed: &'a Failures,
+    /// The format of the picture.
+    format: Format,
+}
 
 /// Checks whether the plan has the service to highlight, if one is requested.
 fn is_found(plan: &Plan, service: Option<&str>) -> bool
@@ -51,21 +64,20 @@ fn chosen_of(plan: &Plan, service: Option<&str>) -> Option<u8>
     }
 }
 
-/// Appends the picture of a network with the ports in these states.
+/// Appends the picture of a network with the ports in these states and with these failures.
 fn put_picture(
     alloc: Global,
     out: &mut String,
     plan: &Plan,
     shape: &Shape,
-    chosen: Option<u8>,
-    format: Format,
+    shown: Shown<'_>,
 ) -> Result<(), Memory>
     requires { IsSound plan.now }
     ensures { OnOk result ((text : List ℕ) × (string_bytes out.new ≡ string_bytes out.old ++ text)
-        × IsPictureOf plan.now shape.now chosen format text) }
+        × IsPictureOf plan.now shape.now shown.entry.chosen shown.entry.failed.now shown.entry.format text) }
 {
-    let scene = scene_of(alloc, plan, shape, chosen)?;
-    match format {
+    let scene = scene_of(alloc, plan, shape, shown.chosen, shown.failed)?;
+    match shown.format {
         Format::Svg => put_svg(alloc, out, plan, &scene),
         Format::Dot => put_dot(alloc, out, plan, &scene),
     }
@@ -77,16 +89,16 @@ fn put_last(
     out: &mut String,
     plan: &Plan,
     tallies: &Tallies,
-    chosen: Option<u8>,
-    format: Format,
+    shown: Shown<'_>,
 ) -> Result<(), Memory>
     requires { IsSound plan.now }
     ensures enough { OnOk result (HasEnoughMemory tallies.now) }
     ensures picture { OnOk result ((text : List ℕ) × (string_bytes out.new ≡ string_bytes out.old ++ text)
-        × IsPictureOf plan.now (last_shape plan.now tallies.now) chosen format text) }
+        × IsPictureOf plan.now (last_shape plan.now tallies.now) shown.entry.chosen shown.entry.failed.now
+        shown.entry.format text) }
 {
     let shape = shape_of(alloc, plan, tallies)?;
-    put_picture(alloc, out, plan, &shape, chosen, format)
+    put_picture(alloc, out, plan, &shape, shown)
 }
 
 /// Drives a network to convergence, and appends its picture. Returns whether the bridges converged.
@@ -105,8 +117,14 @@ fn put_rested(
 {
     let rest = settle(alloc, &mut net, plan, asked.ticks, MOST_EVENTS)?;
     let chosen = chosen_of(plan, asked.service);
+    let failed = failures_of(alloc, plan, asked.downs)?;
+    let shown = Shown {
+        chosen,
+        failed: &failed,
+        format: asked.format,
+    };
     let tallies = net.tallies()?;
-    put_last(alloc, out, plan, &tallies, chosen, asked.format)?;
+    put_last(alloc, out, plan, &tallies, shown)?;
     Ok(rest)
 }
 

@@ -7,9 +7,11 @@ mod asked;
 mod dot;
 mod draw;
 mod end;
+mod failures;
 mod style;
 mod svg;
 mod svg_boxes;
+mod svg_keys;
 mod svg_links;
 mod titles;
 mod words;
@@ -20,7 +22,7 @@ pub use draw::run_draw;
 pub use end::{DrawEnd, Format};
 pub use pb_converge::{DownFault, Rest};
 pub use pb_draw_layout::{
-    BridgeFacts, BridgeMark, Lane, LinkFacts, LinkMark, Point, PortFacts, PortMark, Route, Scene,
-    ServiceFacts, ServiceMark, Tone, scene_of,
+    BridgeFacts, BridgeMark, DownEnds, Failures, Key, KeyMark, Lane, LinkFacts, LinkMark,
+    LinkState, Point, PortFacts, PortMark, Route, Scene, ServiceFacts, ServiceMark, Tone, scene_of,
 };
 pub use svg::put_svg;

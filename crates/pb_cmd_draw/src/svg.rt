@@ -1,16 +1,18 @@
 //! A scene as an SVG picture.
 
 ghost use Rattle.std.specs.Prelude.{◌≡◌, ◌++◌, flat_map, string_bytes, OnOk};
-ghost use Rattle.pb_cmd_draw.specs.Svg.{opening_text, counts_text, ground_text, group_text, head_text, elements_text};
-ghost use Rattle.pb_cmd_draw.specs.Svg.{svg_text};
+ghost use Rattle.pb_cmd_draw.specs.Svg.{opening_text, counts_text, ground_text, group_text, head_text, parts_text};
+ghost use Rattle.pb_cmd_draw.specs.Svg.{elements_text, svg_text};
 ghost use Rattle.pb_cmd_draw.specs.SvgBoxes.{bridge_element, port_element, service_element};
+ghost use Rattle.pb_cmd_draw.specs.SvgKeys.{key_element};
 ghost use Rattle.pb_cmd_draw.specs.SvgLinks.{link_element, ends_element};
 
 use crate::style::STYLE;
 use crate::svg_boxes::{put_bridge, put_port, put_service};
+use crate::svg_keys::put_key;
 use crate::svg_links::{put_ends, put_link};
 use crate::words::colour_of;
-use pb_draw_layout::{BridgeMark, LinkMark, Point, PortMark, Scene, ServiceMark};
+use pb_draw_layout::{BridgeMark, KeyMark, LinkMark, Point, PortMark, Scene, ServiceMark};
 use pb_frame::Memory;
 use pb_lan::Plan;
 use std::alloc::Global;
@@ -61,7 +63,17 @@ fn put_all_ends(out: &mut String, plan: &Plan, marks: &[LinkMark]) -> Result<(),
     Ok(())
 }
 
-/// Appends the legend.
+/// Appends the signs of the legend.
+fn put_keys(out: &mut String, marks: &[KeyMark]) -> Result<(), Memory>
+    ensures { OnOk result (string_bytes out.new ≡ string_bytes out.old ++ flat_map key_element marks.now) }
+{
+    for mark in marks {
+        put_key(out, mark)?;
+    }
+    Ok(())
+}
+
+/// Appends the services of the legend.
 fn put_services(out: &mut String, plan: &Plan, marks: &[ServiceMark]) -> Result<(), Memory>
     ensures { OnOk result (string_bytes out.new ≡ string_bytes out.old
         ++ flat_map (service_element plan.now) marks.now) }
@@ -132,22 +144,31 @@ fn put_head(out: &mut String, scene: &Scene) -> Result<(), Memory>
     put_group(out, scene.chosen)
 }
 
-/// Appends the elements of all parts.
-fn put_elements(alloc: Global, out: &mut String, plan: &Plan, scene: &Scene) -> Result<(), Memory>
-    ensures { OnOk result (string_bytes out.new ≡ string_bytes out.old ++ elements_text plan.now scene.now) }
+/// Appends the elements of all parts of the network.
+fn put_parts(alloc: Global, out: &mut String, plan: &Plan, scene: &Scene) -> Result<(), Memory>
+    ensures { OnOk result (string_bytes out.new ≡ string_bytes out.old ++ parts_text plan.now scene.now) }
 {
     put_links(out, plan, scene.links.as_slice())?;
     put_bridges(alloc, out, plan, scene.bridges.as_slice())?;
     put_ports(out, plan, scene.ports.as_slice())?;
-    put_all_ends(out, plan, scene.links.as_slice())?;
+    put_all_ends(out, plan, scene.links.as_slice())
+}
+
+/// Appends the elements of all parts and of the legend.
+fn put_elements(alloc: Global, out: &mut String, plan: &Plan, scene: &Scene) -> Result<(), Memory>
+    ensures { OnOk result (string_bytes out.new ≡ string_bytes out.old ++ elements_text plan.now scene.now) }
+{
+    put_parts(alloc, out, plan, scene)?;
+    put_keys(out, scene.keys.as_slice())?;
     put_services(out, plan, scene.services.as_slice())
 }
 
 /// Appends a scene of a plan as a self-contained SVG picture.
 ///
 /// Each bridge, link, customer port and service has an element with a `<title>` that names it: a bridge with its
-/// address and priority, a link with its ends and their states, a port with its service and VID. The lines of links
-/// come first and are below the boxes. The names of links come after the boxes.
+/// address and priority, a link with its ends and their states, a port with its service and VID. Its `id` and `data-`
+/// attributes name it to programs. The lines of links come first and are below the boxes. The names of links come after
+/// the boxes. The legend has the signs that the picture uses, and the services.
 ///
 /// # Errors
 ///

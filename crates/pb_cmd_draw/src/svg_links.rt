@@ -1,17 +1,32 @@
 //! Links in an SVG picture.
 
 ghost use Rattle.std.specs.Prelude.{◌≡◌, ◌++◌, string_bytes, OnOk};
-ghost use Rattle.pb_cmd_draw.specs.SvgLinks.{curve_text, route_text, link_class, known_link, link_element, mark_of};
-ghost use Rattle.pb_cmd_draw.specs.SvgLinks.{number_text, mark_text, end_text, both_ends, plate_text, name_text};
-ghost use Rattle.pb_cmd_draw.specs.SvgLinks.{label_text, known_ends, ends_element};
+ghost use Rattle.pb_cmd_draw.specs.SvgLinks.{curve_text, route_text, link_class, link_attribute, end_attribute};
+ghost use Rattle.pb_cmd_draw.specs.SvgLinks.{state_attribute, link_data, link_group, known_link};
+ghost use Rattle.pb_cmd_draw.specs.SvgLinks.{link_element, mark_of, end_mark, number_text, end_data, drawing_text};
+ghost use Rattle.pb_cmd_draw.specs.SvgLinks.{end_text, both_ends, plate_text, name_text, label_text, known_ends};
+ghost use Rattle.pb_cmd_draw.specs.SvgLinks.{ends_element};
 
 use crate::titles::put_link_words;
-use crate::words::{active_word, losing_word, tone_word};
-use pb_draw_layout::{LinkFacts, LinkMark, Point, Route};
+use crate::words::{end_word, link_word, losing_word, tone_word};
+use pb_draw_layout::{LinkFacts, LinkMark, LinkState, Point, Route};
 use pb_forest::numbered;
 use pb_frame::Memory;
-use pb_lan::{LinkPlan, Plan, PortState};
-use pb_names::state_word;
+use pb_lan::{End, LinkPlan, Plan, PortState};
+use pb_names::bridge_name;
+
+/// What a picture shows of an end of a link.
+#[derive(Clone, Copy)]
+struct ShownEnd {
+    /// Whether it is disabled.
+    disabled: bool,
+    /// The state of its port.
+    state: PortState,
+    /// The middle of the port's number.
+    number: Point,
+    /// The point at which the link meets the box.
+    landing: Point,
+}
 
 /// Appends a curve from the left coordinate `x` to a point. Both control points are `bend` from the top.
 fn put_curve(out: &mut String, x: u32, bend: u32, to: Point) -> Result<(), Memory>
@@ -42,14 +57,75 @@ fn put_route(out: &mut String, route: &Route) -> Result<(), Memory>
     }
 }
 
-/// Appends the opening tag of a link's group: its kind, whether it is active, and its tone.
-fn put_link_class(out: &mut String, kind: &str, facts: LinkFacts) -> Result<(), Memory>
-    ensures { OnOk result (string_bytes out.new ≡ string_bytes out.old ++ link_class kind.now facts) }
+/// Appends the beginning of a group of a link: its identifier, by its kind, and its classes.
+fn put_link_class(out: &mut String, kind: &str, name: &str, facts: LinkFacts) -> Result<(), Memory>
+    ensures { OnOk result (string_bytes out.new ≡ string_bytes out.old ++ link_class kind.now name.now facts) }
 {
-    let active = active_word(facts.active);
+    let state = link_word(facts.state);
     let tone = tone_word(facts.tone);
-    write!(out, "<g class=\"{kind} {active} {tone}\">")?;
+    write!(
+        out,
+        "<g id=\"{kind}-{name}\" class=\"{kind} {state} {tone}\" "
+    )?;
     Ok(())
+}
+
+/// Appends the attribute that names a link.
+fn put_link_attribute(out: &mut String, link: &LinkPlan) -> Result<(), Memory>
+    ensures { OnOk result (string_bytes out.new ≡ string_bytes out.old ++ link_attribute link.now) }
+{
+    let name = link.name.as_str();
+    write!(out, "data-link=\"{name}\" ")?;
+    Ok(())
+}
+
+/// Appends the attribute with this key that names an end of a link.
+fn put_end_attribute(out: &mut String, key: &str, plan: &Plan, end: &End) -> Result<(), Memory>
+    ensures { OnOk result (string_bytes out.new ≡ string_bytes out.old ++ end_attribute key.now plan.now end.now) }
+{
+    let bridge = bridge_name(plan, end.bridge);
+    let port = end.port;
+    write!(out, "data-{key}=\"{bridge}:{port}\" ")?;
+    Ok(())
+}
+
+/// Appends the attribute that has the state of a link, and the end of the tag.
+fn put_state_attribute(out: &mut String, state: LinkState) -> Result<(), Memory>
+    ensures { OnOk result (string_bytes out.new ≡ string_bytes out.old ++ state_attribute state) }
+{
+    let word = link_word(state);
+    write!(out, "data-state=\"{word}\">")?;
+    Ok(())
+}
+
+/// Appends the attributes that describe a link: its name, its ends and its state.
+fn put_link_data(
+    out: &mut String,
+    plan: &Plan,
+    link: &LinkPlan,
+    state: LinkState,
+) -> Result<(), Memory>
+    ensures { OnOk result (string_bytes out.new ≡ string_bytes out.old ++ link_data plan.now link.now state) }
+{
+    put_link_attribute(out, link)?;
+    put_end_attribute(out, "a", plan, &link.a)?;
+    put_end_attribute(out, "b", plan, &link.b)?;
+    put_state_attribute(out, state)
+}
+
+/// Appends the opening tag of a group of a link.
+fn put_link_group(
+    out: &mut String,
+    kind: &str,
+    plan: &Plan,
+    link: &LinkPlan,
+    facts: LinkFacts,
+) -> Result<(), Memory>
+    ensures { OnOk result (string_bytes out.new ≡ string_bytes out.old
+        ++ link_group kind.now plan.now link.now facts) }
+{
+    put_link_class(out, kind, link.name.as_str(), facts)?;
+    put_link_data(out, plan, link, facts.state)
 }
 
 /// Appends a link's line, with its title.
@@ -61,7 +137,7 @@ fn put_known_link(
 ) -> Result<(), Memory>
     ensures { OnOk result (string_bytes out.new ≡ string_bytes out.old ++ known_link plan.now link.now mark.now) }
 {
-    put_link_class(out, "link", mark.facts)?;
+    put_link_group(out, "link", plan, link, mark.facts)?;
     out.push_str("<title>")?;
     put_link_words(out, plan, link, mark.facts)?;
     out.push_str("</title><path d=\"")?;
@@ -91,6 +167,17 @@ fn mark_of(state: PortState) -> &'static str
     }
 }
 
+/// Returns the drawing of an end from its middle on: a large cross if it is disabled, else that of its state.
+fn end_mark(disabled: bool, state: PortState) -> &'static str
+    ensures { result.now ≡ end_mark disabled state }
+{
+    if disabled {
+        "m-7-7l14 14m0-14l-14 14"
+    } else {
+        mark_of(state)
+    }
+}
+
 /// Appends the number of a link's port.
 fn put_number(out: &mut String, port: u8, middle: Point) -> Result<(), Memory>
     ensures { OnOk result (string_bytes out.new ≡ string_bytes out.old ++ number_text port middle) }
@@ -100,38 +187,74 @@ fn put_number(out: &mut String, port: u8, middle: Point) -> Result<(), Memory>
     Ok(())
 }
 
-/// Appends the mark of a state.
-fn put_mark(out: &mut String, state: PortState, middle: Point) -> Result<(), Memory>
-    ensures { OnOk result (string_bytes out.new ≡ string_bytes out.old ++ mark_text state middle) }
+/// Appends the beginning of an end's mark: its class, and the attributes that describe it.
+fn put_end_data(
+    out: &mut String,
+    plan: &Plan,
+    end: &End,
+    disabled: bool,
+    state: PortState,
+) -> Result<(), Memory>
+    ensures { OnOk result (string_bytes out.new ≡ string_bytes out.old ++ end_data plan.now end.now disabled state) }
+{
+    let word = end_word(disabled, state);
+    let bridge = bridge_name(plan, end.bridge);
+    let port = end.port;
+    write!(
+        out,
+        "<path class=\"{word}\" data-bridge=\"{bridge}\" data-port=\"{port}\" data-state=\"{word}\" "
+    )?;
+    Ok(())
+}
+
+/// Appends the drawing of an end's mark.
+fn put_drawing(
+    out: &mut String,
+    disabled: bool,
+    state: PortState,
+    middle: Point,
+) -> Result<(), Memory>
+    ensures { OnOk result (string_bytes out.new ≡ string_bytes out.old ++ drawing_text disabled state middle) }
 {
     let (x, y) = (middle.x, middle.y);
-    let class = state_word(state);
-    let mark = mark_of(state);
-    write!(out, "<path class=\"{class}\" d=\"M{x} {y}{mark}\"/>")?;
+    let mark = end_mark(disabled, state);
+    write!(out, "d=\"M{x} {y}{mark}\"/>")?;
     Ok(())
 }
 
 /// Appends the number of a link's port, and the mark of its state.
-fn put_end(
-    out: &mut String,
-    port: u8,
-    state: PortState,
-    number: Point,
-    landing: Point,
-) -> Result<(), Memory>
-    ensures { OnOk result (string_bytes out.new ≡ string_bytes out.old ++ end_text port state number landing) }
+fn put_end(out: &mut String, plan: &Plan, end: &End, shown: ShownEnd) -> Result<(), Memory>
+    ensures { OnOk result (string_bytes out.new ≡ string_bytes out.old ++ end_text plan.now end.now shown) }
 {
-    put_number(out, port, number)?;
-    put_mark(out, state, landing)
+    put_number(out, end.port, shown.number)?;
+    put_end_data(out, plan, end, shown.disabled, shown.state)?;
+    put_drawing(out, shown.disabled, shown.state, shown.landing)
 }
 
 /// Appends both ends of a link.
-fn put_both_ends(out: &mut String, link: &LinkPlan, mark: &LinkMark) -> Result<(), Memory>
-    ensures { OnOk result (string_bytes out.new ≡ string_bytes out.old ++ both_ends link.now mark.now) }
+fn put_both_ends(
+    out: &mut String,
+    plan: &Plan,
+    link: &LinkPlan,
+    mark: &LinkMark,
+) -> Result<(), Memory>
+    ensures { OnOk result (string_bytes out.new ≡ string_bytes out.old ++ both_ends plan.now link.now mark.now) }
 {
     let (facts, route) = (mark.facts, mark.route);
-    put_end(out, link.a.port, facts.a, route.a_port, route.a)?;
-    put_end(out, link.b.port, facts.b, route.b_port, route.b)
+    let a = ShownEnd {
+        disabled: facts.failed.a,
+        state: facts.a,
+        number: route.a_port,
+        landing: route.a,
+    };
+    let b = ShownEnd {
+        disabled: facts.failed.b,
+        state: facts.b,
+        number: route.b_port,
+        landing: route.b,
+    };
+    put_end(out, plan, &link.a, a)?;
+    put_end(out, plan, &link.b, b)
 }
 
 /// Appends a plate that hides the line under a link's name.
@@ -170,11 +293,16 @@ fn put_label(out: &mut String, link: &LinkPlan, route: &Route) -> Result<(), Mem
 }
 
 /// Appends the ends of a link, and its name.
-fn put_known_ends(out: &mut String, link: &LinkPlan, mark: &LinkMark) -> Result<(), Memory>
-    ensures { OnOk result (string_bytes out.new ≡ string_bytes out.old ++ known_ends link.now mark.now) }
+fn put_known_ends(
+    out: &mut String,
+    plan: &Plan,
+    link: &LinkPlan,
+    mark: &LinkMark,
+) -> Result<(), Memory>
+    ensures { OnOk result (string_bytes out.new ≡ string_bytes out.old ++ known_ends plan.now link.now mark.now) }
 {
-    put_link_class(out, "ends", mark.facts)?;
-    put_both_ends(out, link, mark)?;
+    put_link_group(out, "ends", plan, link, mark.facts)?;
+    put_both_ends(out, plan, link, mark)?;
     put_label(out, link, &mark.route)?;
     out.push_str("</g>\n")?;
     Ok(())
@@ -186,6 +314,6 @@ pub(crate) fn put_ends(out: &mut String, plan: &Plan, mark: &LinkMark) -> Result
 {
     match numbered(plan.links.as_slice(), mark.facts.number as usize) {
         None => Ok(()),
-        Some(link) => put_known_ends(out, link, mark),
+        Some(link) => put_known_ends(out, plan, link, mark),
     }
 }

@@ -1,10 +1,12 @@
 //! Words, colours and dashes of a picture.
 
 ghost use Rattle.std.specs.Prelude.{◌≡◌};
-ghost use Rattle.pb_cmd_draw.specs.Words.{tone_word, active_word, losing_word, is_lossless, colour_of, dashes_of};
+ghost use Rattle.pb_cmd_draw.specs.Words.{tone_word, link_word, end_word, bridge_word, role_of, site_word, losing_word};
+ghost use Rattle.pb_cmd_draw.specs.Words.{is_lossless, colour_of, dashes_of};
 
-use pb_draw_layout::Tone;
-use pb_lan::LinkPlan;
+use pb_draw_layout::{LinkState, Tone};
+use pb_lan::{LinkPlan, PortState};
+use pb_names::state_word;
 
 /// Returns the word for a tone.
 pub(crate) fn tone_word(tone: Tone) -> &'static str
@@ -17,11 +19,47 @@ pub(crate) fn tone_word(tone: Tone) -> &'static str
     }
 }
 
-/// Returns the word for a link that is active or not.
-pub(crate) fn active_word(active: bool) -> &'static str
-    ensures { result.now ≡ active_word active }
+/// Returns the word for the state of a link.
+pub(crate) fn link_word(state: LinkState) -> &'static str
+    ensures { result.now ≡ link_word state }
 {
-    if active { "active" } else { "idle" }
+    match state {
+        LinkState::Active => "active",
+        LinkState::Standby => "standby",
+        LinkState::Failed => "failed",
+    }
+}
+
+/// Returns the word for the state of an end of a link, which is disabled or not.
+pub(crate) fn end_word(disabled: bool, state: PortState) -> &'static str
+    ensures { result.now ≡ end_word disabled state }
+{
+    if disabled {
+        "disabled"
+    } else {
+        state_word(state)
+    }
+}
+
+/// Returns the word for a bridge that has failed or not.
+pub(crate) fn bridge_word(failed: bool) -> &'static str
+    ensures { result.now ≡ bridge_word failed }
+{
+    if failed { "failed" } else { "up" }
+}
+
+/// Returns the word for a bridge that is a root or not.
+pub(crate) fn role_of(root: bool) -> &'static str
+    ensures { result.now ≡ role_of root }
+{
+    if root { "root" } else { "bridge" }
+}
+
+/// Returns the word for a customer port that is cut off or not.
+pub(crate) fn site_word(cut_off: bool) -> &'static str
+    ensures { result.now ≡ site_word cut_off }
+{
+    if cut_off { "cut-off" } else { "up" }
 }
 
 /// Checks whether a link loses no frame.

@@ -1,2 +1,4 @@
 pub mod Facts
+pub mod Paths
+pub mod Keys
 pub mod Scenes

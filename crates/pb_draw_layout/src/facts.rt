@@ -1,11 +1,17 @@
 //! The facts that a picture shows of each part of a plan's network.
 
 ghost use Rattle.std.specs.Prelude.{◌≡◌};
+ghost use Rattle.pb_lan.specs.Plans.{IsSound};
 ghost use Rattle.pb_draw_layout.specs.Facts.{shade, service_tone, bridge_tone, link_tone, carries_some, is_active_link};
-ghost use Rattle.pb_draw_layout.specs.Facts.{is_link_of, is_port_of, has_port, has_link, is_in_tree, bridge_facts};
-ghost use Rattle.pb_draw_layout.specs.Facts.{known_facts, link_facts, port_facts, service_facts};
+ghost use Rattle.pb_draw_layout.specs.Facts.{ends_failed, link_state, is_among, touches, is_port_of, has_port};
+ghost use Rattle.pb_draw_layout.specs.Facts.{has_lit_link, bridge_facts, known_facts, link_facts, port_facts};
+ghost use Rattle.pb_draw_layout.specs.Facts.{service_facts};
 
-use pb_forest::{are_ends_forwarding, is_active, numbered, state_in, vid_numbered};
+use crate::apart::is_cut_off;
+use crate::findings::Findings;
+use crate::roots::{is_failed, is_root};
+use pb_forest::{are_ends_forwarding, is_active, numbered, state_in};
+use pb_frame::Seq;
 use pb_lan::{CustomerPlan, LinkPlan, Plan, PortState, Shape};
 use pb_names::service_at;
 
@@ -20,12 +26,45 @@ pub enum Tone {
     Faint,
 }
 
+/// Which ends of a link are disabled.
+#[derive(Clone, Copy, PartialEq, Eq, Debug)]
+pub struct DownEnds {
+    /// The end `a`.
+    pub a: bool,
+    /// The end `b`.
+    pub b: bool,
+}
+
+/// The bridges and the ends of links that have failed.
+#[derive(PartialEq, Eq, Debug, Drop)]
+pub struct Failures {
+    /// Whether a bridge has failed, by bridge.
+    pub bridges: Seq<bool>,
+    /// The disabled ends, by link.
+    pub links: Seq<DownEnds>,
+}
+
+/// The state of a link.
+#[derive(Clone, Copy, PartialEq, Eq, Debug)]
+pub enum LinkState {
+    /// Both ends are Forwarding and members of at least one service. In a plan without services: both are Forwarding.
+    Active,
+    /// The link is neither active nor failed.
+    Standby,
+    /// An end of the link is disabled.
+    Failed,
+}
+
 /// The facts of a bridge.
 #[derive(Clone, Copy, PartialEq, Eq, Debug)]
 pub struct BridgeFacts {
     /// Its number.
     pub number: u8,
-    /// Lit if a customer port or an active link of the chosen service is at the bridge.
+    /// Whether it has failed.
+    pub is_failed: bool,
+    /// Whether it is the root of its tree.
+    pub is_root: bool,
+    /// Lit if a customer port of the chosen service or a lit link is at the bridge.
     pub tone: Tone,
 }
 
@@ -38,10 +77,11 @@ pub struct LinkFacts {
     pub a: PortState,
     /// The state of the port at its end `b`.
     pub b: PortState,
-    /// Whether both ends are Forwarding and members of at least one service. In a plan without services: whether both
-    /// are Forwarding.
-    pub active: bool,
-    /// Lit if the link is active for the chosen service.
+    /// Its disabled ends.
+    pub failed: DownEnds,
+    /// Its state.
+    pub state: LinkState,
+    /// Lit if the link is on a path between two customer ports of the chosen service.
     pub tone: Tone,
 }
 
@@ -54,6 +94,9 @@ pub struct PortFacts {
     pub service: u8,
     /// Lit if that is the chosen service.
     pub tone: Tone,
+    /// Whether it is of the chosen service and joined with at most half of that service's customer ports, itself
+    /// included.
+    pub is_cut_off: bool,
 }
 
 /// The facts of a service.
@@ -103,12 +146,27 @@ fn is_active_link(plan: &Plan, shape: &Shape, link: &LinkPlan) -> bool
     }
 }
 
-/// Checks whether a link is at a bridge and active for a service.
-fn is_link_of(plan: &Plan, shape: &Shape, service: u8, bridge: u8, link: &LinkPlan) -> bool
-    ensures { result ≡ is_link_of plan.now shape.now service bridge link.now }
+/// Returns the state of a link with these disabled ends that is active, or would be.
+fn link_state(failed: DownEnds, active: bool) -> LinkState
+    ensures { result ≡ link_state failed active }
 {
-    (link.a.bridge == bridge || link.b.bridge == bridge)
-        && is_active(plan, shape, vid_numbered(plan, service), link)
+    if failed.a || failed.b {
+        LinkState::Failed
+    } else if active {
+        LinkState::Active
+    } else {
+        LinkState::Standby
+    }
+}
+
+/// Returns the disabled ends of a link.
+fn ends_failed(failed: &Failures, link: u8) -> DownEnds
+    ensures { result ≡ ends_failed failed.now link }
+{
+    match numbered(failed.links.as_slice(), link as usize) {
+        None => DownEnds { a: false, b: false },
+        Some(ends) => *ends,
+    }
 }
 
 /// Checks whether a customer port is at a bridge and of a service.
@@ -128,55 +186,67 @@ fn has_port(plan: &Plan, service: u8, bridge: u8) -> bool
         .any(|customer| is_port_of(service, bridge, customer))
 }
 
-/// Checks whether an active link of a service is at a bridge.
-fn has_link(plan: &Plan, shape: &Shape, service: u8, bridge: u8) -> bool
-    ensures { result ≡ has_link plan.now shape.now service bridge }
+/// Checks whether a number is among these.
+fn is_among(numbers: &[u8], number: u8) -> bool
+    ensures { result ≡ is_among numbers.now number }
 {
-    plan.links
-        .as_slice()
-        .iter()
-        .any(|link| is_link_of(plan, shape, service, bridge, link))
+    numbers.iter().any(|one| *one == number)
 }
 
-/// Checks whether a customer port or an active link of a service is at a bridge.
-fn is_in_tree(plan: &Plan, shape: &Shape, service: u8, bridge: u8) -> bool
-    ensures { result ≡ is_in_tree plan.now shape.now service bridge }
+/// Checks whether the link with a number ends at a bridge.
+fn touches(plan: &Plan, bridge: u8, link: u8) -> bool
+    ensures { result ≡ touches plan.now bridge link }
 {
-    has_port(plan, service, bridge) || has_link(plan, shape, service, bridge)
-}
-
-/// Returns the tone of a bridge.
-fn bridge_tone(plan: &Plan, shape: &Shape, chosen: Option<u8>, bridge: u8) -> Tone
-    ensures { result ≡ bridge_tone plan.now shape.now chosen bridge }
-{
-    match chosen {
-        None => Tone::Plain,
-        Some(service) => shade(is_in_tree(plan, shape, service, bridge)),
+    match numbered(plan.links.as_slice(), link as usize) {
+        None => false,
+        Some(link) => link.a.bridge == bridge || link.b.bridge == bridge,
     }
 }
 
-/// Returns the tone of a link.
-fn link_tone(plan: &Plan, shape: &Shape, chosen: Option<u8>, link: &LinkPlan) -> Tone
-    ensures { result ≡ link_tone plan.now shape.now chosen link.now }
+/// Checks whether a lit link ends at a bridge.
+fn has_lit_link(plan: &Plan, lit: &[u8], bridge: u8) -> bool
+    ensures { result ≡ has_lit_link plan.now lit.now bridge }
+{
+    lit.iter().any(|link| touches(plan, bridge, *link))
+}
+
+/// Returns the tone of a bridge.
+fn bridge_tone(plan: &Plan, chosen: Option<u8>, lit: &[u8], bridge: u8) -> Tone
+    ensures { result ≡ bridge_tone plan.now chosen lit.now bridge }
 {
     match chosen {
         None => Tone::Plain,
-        Some(service) => shade(is_active(plan, shape, vid_numbered(plan, service), link)),
+        Some(service) => {
+            shade(has_port(plan, service, bridge) || has_lit_link(plan, lit, bridge))
+        }
+    }
+}
+
+/// Returns the tone of the link with a number.
+fn link_tone(chosen: Option<u8>, lit: &[u8], link: u8) -> Tone
+    ensures { result ≡ link_tone chosen lit.now link }
+{
+    match chosen {
+        None => Tone::Plain,
+        Some(_) => shade(is_among(lit, link)),
     }
 }
 
 /// Returns the facts of the bridge with a number.
 pub(crate) fn bridge_facts(
     plan: &Plan,
-    shape: &Shape,
-    chosen: Option<u8>,
+    failed: &Failures,
+    found: &Findings,
     number: u8,
 ) -> BridgeFacts
-    ensures { result ≡ bridge_facts plan.now shape.now chosen number }
+    requires { IsSound plan.now }
+    ensures { result ≡ bridge_facts plan.now failed.now found.now number }
 {
     BridgeFacts {
         number,
-        tone: bridge_tone(plan, shape, chosen, number),
+        is_failed: is_failed(failed, number),
+        is_root: is_root(plan, failed, &found.trees, number),
+        tone: bridge_tone(plan, found.chosen, found.lit.as_slice(), number),
     }
 }
 
@@ -184,46 +254,58 @@ pub(crate) fn bridge_facts(
 fn known_facts(
     plan: &Plan,
     shape: &Shape,
-    chosen: Option<u8>,
+    failed: DownEnds,
+    tone: Tone,
     number: u8,
     link: &LinkPlan,
 ) -> LinkFacts
-    ensures { result ≡ known_facts plan.now shape.now chosen number link.now }
+    ensures { result ≡ known_facts plan.now shape.now failed tone number link.now }
 {
     LinkFacts {
         number,
         a: state_in(shape, link.a.bridge, link.a.port),
         b: state_in(shape, link.b.bridge, link.b.port),
-        active: is_active_link(plan, shape, link),
-        tone: link_tone(plan, shape, chosen, link),
+        failed,
+        state: link_state(failed, is_active_link(plan, shape, link)),
+        tone,
     }
 }
 
-/// Returns the facts of the link with a number. A link that the plan lacks is idle, with Discarding ends.
-pub(crate) fn link_facts(plan: &Plan, shape: &Shape, chosen: Option<u8>, number: u8) -> LinkFacts
-    ensures { result ≡ link_facts plan.now shape.now chosen number }
+/// Returns the facts of the link with a number. A link that the plan lacks is on standby, with Discarding ends.
+pub(crate) fn link_facts(
+    plan: &Plan,
+    shape: &Shape,
+    failed: &Failures,
+    found: &Findings,
+    number: u8,
+) -> LinkFacts
+    ensures { result ≡ link_facts plan.now shape.now failed.now found.now number }
 {
+    let failed = ends_failed(failed, number);
+    let tone = link_tone(found.chosen, found.lit.as_slice(), number);
     match numbered(plan.links.as_slice(), number as usize) {
         None => LinkFacts {
             number,
             a: PortState::Discarding,
             b: PortState::Discarding,
-            active: false,
-            tone: Tone::Plain,
+            failed,
+            state: LinkState::Standby,
+            tone,
         },
-        Some(link) => known_facts(plan, shape, chosen, number, link),
+        Some(link) => known_facts(plan, shape, failed, tone, number, link),
     }
 }
 
 /// Returns the facts of the customer port with a number.
-pub(crate) fn port_facts(plan: &Plan, chosen: Option<u8>, number: u8) -> PortFacts
-    ensures { result ≡ port_facts plan.now chosen number }
+pub(crate) fn port_facts(plan: &Plan, found: &Findings, number: u8) -> PortFacts
+    ensures { result ≡ port_facts plan.now found.now number }
 {
     let service = service_at(plan, number);
     PortFacts {
         number,
         service,
-        tone: service_tone(chosen, service),
+        tone: service_tone(found.chosen, service),
+        is_cut_off: is_cut_off(plan, found, number),
     }
 }
 

@@ -7,9 +7,12 @@ mod routes;
 mod rows;
 mod slots;
 mod tracks;
+mod wrap;
 
 use crate::scene::Point;
+use crate::table::Table;
 use columns::{Columns, LETTER, MARGIN, columns_of, text_width};
+use levels::levels_of;
 use pb_forest::numbered;
 use pb_frame::Memory;
 use pb_lan::{Plan, Shape};
@@ -17,6 +20,7 @@ use rows::{PORT_HEIGHT, Rows, rows_of};
 use slots::is_long;
 use std::alloc::Global;
 use tracks::{LANE, Stretch, stretches};
+use wrap::wrapped;
 
 /// The distance of the first customer port's baseline from the upper edge of its bridge's box.
 const FIRST_PORT: u32 = 43;
@@ -33,8 +37,17 @@ const ABOVE_LEGEND: u32 = 28;
 /// The width of an entry of the legend besides the name of its service.
 const LEGEND_BESIDES: u32 = 104;
 
+/// The width of an entry of the legend that explains a sign.
+const SIGN_WIDTH: u32 = 160;
+
 /// The least width of a picture.
 const LEAST_WIDTH: u32 = 240;
+
+/// The most bridges in a row of a level that wraps.
+const MOST_IN_ROW: u32 = 20;
+
+/// The width up to which a picture does not wrap.
+const NARROW: u32 = 1000;
 
 /// The positions of the parts of a plan's network.
 #[derive(Drop)]
@@ -54,7 +67,7 @@ fn entry_width(plan: &Plan) -> u32 {
     for service in plan.services.as_slice() {
         widest = widest.max(text_width(service.name.as_str(), LETTER));
     }
-    widest.saturating_add(LEGEND_BESIDES)
+    widest.saturating_add(LEGEND_BESIDES).max(SIGN_WIDTH)
 }
 
 /// Returns the width of the picture.
@@ -72,9 +85,9 @@ fn picture_width(plan: &Plan, columns: &Columns, entry: u32) -> u32 {
         .max(LEAST_WIDTH)
 }
 
-/// Computes the positions of the parts of a plan's network, with the ports in these states.
-pub(crate) fn layout_of(alloc: Global, plan: &Plan, shape: &Shape) -> Result<Layout, Memory> {
-    let columns = columns_of(plan, shape);
+/// Computes the positions of the parts of a plan's network, with at most so many bridges in a row.
+fn layout_in_rows(alloc: Global, plan: &Plan, levels: &Table, most: u32) -> Result<Layout, Memory> {
+    let columns = columns_of(plan, wrapped(plan, levels, most));
     let stretches = stretches(alloc, &columns, plan)?;
     let rows = rows_of(plan, &columns, stretches.as_slice());
     let entry = entry_width(plan);
@@ -87,7 +100,32 @@ pub(crate) fn layout_of(alloc: Global, plan: &Plan, shape: &Shape) -> Result<Lay
     })
 }
 
+/// Returns the narrower of two layouts, or the first if both have the same width.
+fn narrower(one: Layout, other: Layout) -> Layout {
+    if other.width < one.width { other } else { one }
+}
+
+/// Computes the positions of the parts of a plan's network, with the ports in these states. Wide levels wrap until the
+/// picture fits.
+pub(crate) fn layout_of(alloc: Global, plan: &Plan, shape: &Shape) -> Result<Layout, Memory> {
+    let levels = levels_of(plan, shape);
+    let mut layout = layout_in_rows(alloc, plan, &levels, 32)?;
+    for step in 0..MOST_IN_ROW {
+        if layout.fits() {
+            return Ok(layout);
+        }
+        let next = layout_in_rows(alloc, plan, &levels, MOST_IN_ROW - step)?;
+        layout = narrower(layout, next);
+    }
+    Ok(layout)
+}
+
 impl Layout {
+    /// Checks whether the network is narrow, or no wider than twice its height.
+    fn fits(&self) -> bool {
+        self.width <= NARROW || self.width <= self.rows.bottom.saturating_mul(2)
+    }
+
     /// Returns the upper left corner of a bridge's box.
     pub(crate) fn corner(&self, bridge: u8) -> Point {
         let level = self.columns.levels.at(bridge as u32);
@@ -134,15 +172,26 @@ impl Layout {
         }
     }
 
-    /// Returns the start of a service's line in the legend.
-    pub(crate) fn service_corner(&self, number: u8) -> Point {
+    /// Returns the number of lines of the legend that so many entries take.
+    fn lines_of(&self, entries: u32) -> u32 {
+        let in_line = self.entries_in_line();
+        if in_line == 0 {
+            entries
+        } else {
+            entries.saturating_add(in_line - 1) / in_line
+        }
+    }
+
+    /// Returns the start of an entry of the legend by its index among those of its kind, after so many of another kind.
+    pub(crate) fn entry_corner(&self, before: usize, index: usize) -> Point {
         let entries = self.entries_in_line();
-        let place = (number as u32).saturating_sub(1);
+        let place = index.min(255) as u32;
         let (line, column) = if entries == 0 {
             (place, 0)
         } else {
             (place / entries, place % entries)
         };
+        let line = line.saturating_add(self.lines_of(before.min(255) as u32));
         let top = self.rows.bottom.saturating_add(ABOVE_LEGEND);
         Point {
             x: column.saturating_mul(self.entry).saturating_add(MARGIN),
@@ -150,9 +199,14 @@ impl Layout {
         }
     }
 
-    /// Returns the width and the height of the picture.
-    pub(crate) fn size(&self, plan: &Plan) -> Point {
-        let last = self.service_corner(plan.services.len().min(64) as u8);
+    /// Returns the width and the height of the picture, with a legend of so many signs before the services.
+    pub(crate) fn size(&self, plan: &Plan, keys: usize) -> Point {
+        let services = plan.services.len();
+        let last = if services == 0 {
+            self.entry_corner(0, keys.saturating_sub(1))
+        } else {
+            self.entry_corner(keys, services - 1)
+        };
         Point {
             x: self.width,
             y: last.y.saturating_add(MARGIN),

@@ -6,7 +6,9 @@ ghost use Rattle.pb_lan.specs.Plans.{IsSound};
 ghost use Rattle.pb_draw_layout.specs.Facts.{bridge_facts, link_facts, port_facts, service_facts};
 ghost use Rattle.pb_draw_layout.specs.Scenes.{IsSceneOf};
 
-use crate::facts::{bridge_facts, link_facts, port_facts, service_facts};
+use crate::facts::{Failures, bridge_facts, link_facts, port_facts, service_facts};
+use crate::findings::{Findings, found_in};
+use crate::keys::key_marks;
 use crate::layout::{Layout, layout_of};
 use crate::scene::{BridgeMark, LinkMark, PortMark, Scene, ServiceMark};
 use pb_frame::{Memory, Seq};
@@ -17,19 +19,19 @@ use std::alloc::Global;
 fn bridge_marks(
     alloc: Global,
     plan: &Plan,
-    shape: &Shape,
-    chosen: Option<u8>,
+    failed: &Failures,
+    found: &Findings,
     layout: &Layout,
 ) -> Result<Seq<BridgeMark>, Memory>
     requires { IsSound plan.now }
     ensures { IfOk result (λ marks. map (λ m. m.facts) marks
-        ≡ map (bridge_facts plan.now shape.now chosen) (numbers_from 1 plan.now.bridges)) }
+        ≡ map (bridge_facts plan.now failed.now found.now) (numbers_from 1 plan.now.bridges)) }
 {
     let mut marks = Vec::new(alloc);
     for place in 0..plan.bridges.len() {
         let number = place as u8 + 1;
         marks.push(BridgeMark {
-            facts: bridge_facts(plan, shape, chosen, number),
+            facts: bridge_facts(plan, failed, found, number),
             corner: layout.corner(number),
             size: layout.box_size(number),
         })?;
@@ -42,18 +44,19 @@ fn link_marks(
     alloc: Global,
     plan: &Plan,
     shape: &Shape,
-    chosen: Option<u8>,
+    failed: &Failures,
+    found: &Findings,
     layout: &Layout,
 ) -> Result<Seq<LinkMark>, Memory>
     requires { IsSound plan.now }
     ensures { IfOk result (λ marks. map (λ m. m.facts) marks
-        ≡ map (link_facts plan.now shape.now chosen) (numbers_from 1 plan.now.links)) }
+        ≡ map (link_facts plan.now shape.now failed.now found.now) (numbers_from 1 plan.now.links)) }
 {
     let mut marks = Vec::new(alloc);
     for place in 0..plan.links.len() {
         let number = place as u8 + 1;
         marks.push(LinkMark {
-            facts: link_facts(plan, shape, chosen, number),
+            facts: link_facts(plan, shape, failed, found, number),
             route: layout.route(plan, number),
         })?;
     }
@@ -64,18 +67,18 @@ fn link_marks(
 fn port_marks(
     alloc: Global,
     plan: &Plan,
-    chosen: Option<u8>,
+    found: &Findings,
     layout: &Layout,
 ) -> Result<Seq<PortMark>, Memory>
     requires { IsSound plan.now }
     ensures { IfOk result (λ marks. map (λ m. m.facts) marks
-        ≡ map (port_facts plan.now chosen) (numbers_from 1 plan.now.customers)) }
+        ≡ map (port_facts plan.now found.now) (numbers_from 1 plan.now.customers)) }
 {
     let mut marks = Vec::new(alloc);
     for place in 0..plan.customers.len() {
         let number = place as u8 + 1;
         marks.push(PortMark {
-            facts: port_facts(plan, chosen, number),
+            facts: port_facts(plan, found, number),
             corner: layout.port_corner(plan, number),
         })?;
     }
@@ -88,6 +91,7 @@ fn service_marks(
     plan: &Plan,
     chosen: Option<u8>,
     layout: &Layout,
+    keys: usize,
 ) -> Result<Seq<ServiceMark>, Memory>
     requires { IsSound plan.now }
     ensures { IfOk result (λ marks. map (λ m. m.facts) marks
@@ -98,21 +102,25 @@ fn service_marks(
         let number = place as u8 + 1;
         marks.push(ServiceMark {
             facts: service_facts(chosen, number),
-            corner: layout.service_corner(number),
+            corner: layout.entry_corner(keys, place),
         })?;
     }
     Ok(Seq::from_vec(marks))
 }
 
-/// Returns the scene of a sound plan's network, with the ports in these states.
+/// Returns the scene of a sound plan's network, with the ports in these states and with these failures.
 ///
-/// The scene has each bridge, link, customer port and service of the plan once, in the plan's order. A link is active
-/// if both its ends are Forwarding and members of at least one service (IEEE 802.1D-2004 clause 7.4, IEEE 802.1Q clause
-/// 8.8), or, in a plan without services, if both its ends are Forwarding. If `chosen` is a service's number, its
-/// customer ports, its active links and the bridges at these are lit, and all else is faint.
+/// The scene has each bridge, link, customer port and service of the plan once, in the plan's order. A link with a
+/// disabled end has failed. Another link is active if both its ends are Forwarding and members of at least one service
+/// (IEEE 802.1D-2004 clause 7.4, IEEE 802.1Q clause 8.8), or, in a plan without services, if both its ends are
+/// Forwarding. If the bridges run the protocol, the root of a tree is the bridge with the lowest identifier among those
+/// that links join whose two ends are Forwarding, unless it has failed (IEEE 802.1D-2004 clause 9.2.5).
 ///
-/// The level of a bridge is the number of links up to the root of its tree. The root is the bridge with the lowest
-/// identifier if the bridges run the protocol (IEEE 802.1D-2004 clause 9.2.5), and the one with the lowest number if
+/// If `chosen` is a service's number, its customer ports, the links on the paths between them and the bridges at these
+/// are lit, and all else is faint. A customer port that is joined with at most half of those ports is cut off. The
+/// scene's keys are those that the picture uses.
+///
+/// The level of a bridge is the number of links up to the root of its tree, or to the bridge with the lowest number if
 /// the plan gives the states. No two boxes and no two names of links overlap; no contract covers the positions.
 ///
 /// # Errors
@@ -123,20 +131,30 @@ pub fn scene_of(
     plan: &Plan,
     shape: &Shape,
     chosen: Option<u8>,
+    failed: &Failures,
 ) -> Result<Scene, Memory>
     requires { IsSound plan.now }
-    ensures { IfOk result (IsSceneOf plan.now shape.now chosen) }
+    ensures { IfOk result (IsSceneOf plan.now shape.now chosen failed.now) }
 {
+    let found = found_in(alloc, plan, shape, chosen)?;
     let layout = layout_of(alloc, plan, shape)?;
-    let bridges = bridge_marks(alloc, plan, shape, chosen, &layout)?;
-    let links = link_marks(alloc, plan, shape, chosen, &layout)?;
-    let ports = port_marks(alloc, plan, chosen, &layout)?;
-    let services = service_marks(alloc, plan, chosen, &layout)?;
-    let size = layout.size(plan);
+    let bridges = bridge_marks(alloc, plan, failed, &found, &layout)?;
+    let links = link_marks(alloc, plan, shape, failed, &found, &layout)?;
+    let ports = port_marks(alloc, plan, &found, &layout)?;
+    let keys = key_marks(
+        alloc,
+        &layout,
+        bridges.as_slice(),
+        links.as_slice(),
+        ports.as_slice(),
+    )?;
+    let services = service_marks(alloc, plan, chosen, &layout, keys.len())?;
+    let size = layout.size(plan, keys.len());
     Ok(Scene {
         bridges,
         links,
         ports,
+        keys,
         services,
         chosen,
         size,

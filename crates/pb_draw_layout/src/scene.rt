@@ -75,6 +75,36 @@ pub struct PortMark {
     pub corner: Point,
 }
 
+/// A kind of sign that a legend explains.
+#[derive(Clone, Copy, PartialEq, Eq, Debug)]
+pub enum Key {
+    /// The root of a tree.
+    Root,
+    /// A bridge that has failed.
+    FailedBridge,
+    /// An active link.
+    ActiveLink,
+    /// A link on standby.
+    StandbyLink,
+    /// A link that has failed.
+    FailedLink,
+    /// An end of a link that is Discarding.
+    DiscardingPort,
+    /// An end of a link that is Learning.
+    LearningPort,
+    /// A customer port that is cut off from others of its service.
+    CutOff,
+}
+
+/// A sign in a picture's legend.
+#[derive(Clone, Copy, PartialEq, Eq, Debug)]
+pub struct KeyMark {
+    /// Its kind.
+    pub key: Key,
+    /// The start of its line.
+    pub corner: Point,
+}
+
 /// A service in a picture's legend.
 #[derive(Clone, Copy, PartialEq, Eq, Debug)]
 pub struct ServiceMark {
@@ -93,6 +123,8 @@ pub struct Scene {
     pub links: Seq<LinkMark>,
     /// The customer ports, in the plan's order.
     pub ports: Seq<PortMark>,
+    /// The signs that the picture uses.
+    pub keys: Seq<KeyMark>,
     /// The services, in the plan's order.
     pub services: Seq<ServiceMark>,
     /// The number of the highlighted service, if there is one.

@@ -1,11 +1,10 @@
 //! The width of boxes, and their horizontal positions.
 
-use super::levels::levels;
 use super::order::centres;
 use super::slots::{Side, slot_of};
 use crate::table::{Table, number_at};
 use pb_forest::numbered;
-use pb_lan::{CustomerPlan, LinkPlan, Plan, Shape};
+use pb_lan::{CustomerPlan, LinkPlan, Plan};
 
 /// The distance between two boxes of a level.
 const GAP: u32 = 40;
@@ -37,7 +36,7 @@ const LOSING_LETTERS: u32 = 8;
 /// The horizontal positions.
 #[derive(Clone, Copy)]
 pub(crate) struct Columns {
-    /// The level of each bridge.
+    /// The row of each bridge: its level, or one of several rows of a wide level.
     pub levels: Table,
     /// The middle of each bridge's box, in half steps.
     pub centres: Table,
@@ -121,9 +120,8 @@ fn leftmost(plan: &Plan, centres: &Table) -> u32 {
     first
 }
 
-/// Computes the horizontal positions of a plan's bridges.
-pub(crate) fn columns_of(plan: &Plan, shape: &Shape) -> Columns {
-    let levels = levels(plan, shape);
+/// Computes the horizontal positions of a plan's bridges in these rows.
+pub(crate) fn columns_of(plan: &Plan, levels: Table) -> Columns {
     let centres = centres(plan, &levels);
     let wide = widest_text(plan).max(widest_edge(plan, &levels, &centres));
     let box_width = (wide / 2).saturating_mul(2);

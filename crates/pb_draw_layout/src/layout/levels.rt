@@ -59,7 +59,7 @@ fn spread(plan: &Plan, shape: &Shape, levels: &mut Table) {
 ///
 /// Trees consist of the links that are Forwarding at both ends. The root is the bridge with the lowest identifier if
 /// the bridges run the protocol, and the one with the lowest number if the plan gives the states.
-pub(crate) fn levels(plan: &Plan, shape: &Shape) -> Table {
+pub(crate) fn levels_of(plan: &Plan, shape: &Shape) -> Table {
     let mut levels = Table::filled(NOWHERE);
     for _ in plan.bridges.as_slice() {
         let Some(root) = next_root(plan, &levels) else {

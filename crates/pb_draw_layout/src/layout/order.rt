@@ -97,15 +97,52 @@ fn reorder(plan: &Plan, levels: &Table, centres: &mut Table, level: u32, side: S
     }
 }
 
+/// Returns the upper and the lower bridge of a link.
+fn upper_and_lower(levels: &Table, link: &LinkPlan) -> (u32, u32) {
+    let (a, b) = (link.a.bridge as u32, link.b.bridge as u32);
+    if levels.at(a) <= levels.at(b) {
+        (a, b)
+    } else {
+        (b, a)
+    }
+}
+
+/// Checks whether two links between the same two levels cross.
+fn cross(levels: &Table, centres: &Table, one: &LinkPlan, other: &LinkPlan) -> bool {
+    let (upper, lower) = upper_and_lower(levels, one);
+    let (other_upper, other_lower) = upper_and_lower(levels, other);
+    let is_same_gap = levels.at(upper) == levels.at(other_upper)
+        && levels.at(lower) == levels.at(other_lower)
+        && levels.at(upper) < levels.at(lower);
+    let (a, b) = (centres.at(upper), centres.at(other_upper));
+    let (c, d) = (centres.at(lower), centres.at(other_lower));
+    is_same_gap && ((a < b && d < c) || (b < a && c < d))
+}
+
+/// Returns how many pairs of links between the same two levels cross.
+fn crossings(plan: &Plan, levels: &Table, centres: &Table) -> u32 {
+    let mut count = 0u32;
+    for (place, one) in plan.links.as_slice().iter().enumerate() {
+        for (other_place, other) in plan.links.as_slice().iter().enumerate() {
+            if other_place < place && cross(levels, centres, one, other) {
+                count = count.saturating_add(1);
+            }
+        }
+    }
+    count
+}
+
 /// Returns the middle of each bridge's box, in half steps of a box. Each level is centred.
 ///
-/// Bridges move to the mean place of their neighbours, level by level, down, up and down again. This leaves few links
-/// that cross.
+/// Bridges move to the mean place of their neighbours, level by level, down, up and down again. Of the orders after
+/// each pass down, the one with the fewest crossings is kept.
 pub(crate) fn centres(plan: &Plan, levels: &Table) -> Table {
     let mut centres = Table::filled(MIDDLE);
     for level in 0..32u32 {
         reorder(plan, levels, &mut centres, level, Side::Above);
     }
+    let mut best = centres;
+    let mut fewest = crossings(plan, levels, &best);
     for _ in 0..SWEEPS {
         for level in 0..32u32 {
             reorder(plan, levels, &mut centres, 31 - level, Side::Below);
@@ -113,6 +150,11 @@ pub(crate) fn centres(plan: &Plan, levels: &Table) -> Table {
         for level in 0..32u32 {
             reorder(plan, levels, &mut centres, level, Side::Above);
         }
+        let count = crossings(plan, levels, &centres);
+        if count < fewest {
+            best = centres;
+            fewest = count;
+        }
     }
-    centres
+    best
 }

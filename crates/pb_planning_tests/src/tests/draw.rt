@@ -95,6 +95,18 @@ fn networks_are_drawn(rt: HostRuntime) -> Result<(), Fail> {
         ),
         (
             plans::GIVEN,
+            (Some("red"), &[], 200, SVG),
+            DrawEnd::Drawn(Rest::Given),
+            plans::RED_PIECES,
+        ),
+        (
+            plans::GIVEN,
+            (Some("red"), &["L2"], 200, SVG),
+            DrawEnd::Drawn(Rest::Given),
+            plans::CUT_PIECES,
+        ),
+        (
+            plans::GIVEN,
             (None, &["B2:2"], 0, SVG),
             DrawEnd::Drawn(Rest::Given),
             plans::DOWN_PIECES,
@@ -122,6 +134,12 @@ fn networks_are_drawn(rt: HostRuntime) -> Result<(), Fail> {
             (None, &[], 200, DOT),
             DrawEnd::Drawn(Rest::Given),
             plans::DOT_PIECES,
+        ),
+        (
+            plans::GIVEN,
+            (None, &["B2"], 200, DOT),
+            DrawEnd::Drawn(Rest::Given),
+            plans::DOT_DOWN_PIECES,
         ),
         (
             plans::RING,

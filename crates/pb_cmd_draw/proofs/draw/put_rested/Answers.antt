@@ -6,7 +6,7 @@ use Rattle.pb_converge.specs.Enough.{HasEnoughMemory}
 use Rattle.pb_lan.specs.LastShapes.{last_shape}
 use Rattle.pb_lan.specs.Records.{IsLawfulRecord}
 use Rattle.pb_relay.specs.Protocol.{spanning_tree}
-use Rattle.pb_cmd_draw.specs.Draws.{IsPictureOf}
+use Rattle.pb_cmd_draw.specs.Draws.{chosen_of, IsPictureOf}
 use Rattle.pb_cmd_draw.proofs.draw.put_rested.Goals as goal
 
 pub returns-in_err-rest-clause-err : goal.returns-in_err-rest-clause-err
@@ -22,10 +22,15 @@ returns-clause-ok c =
     let plan = c.args.plan.now in
     let form = c.args.asked.now.format in
     let t = c.in_ok-put_last.ensures.picture in
-    let last = subst (λ rec. IsPictureOf plan (last_shape plan rec) c.chosen_of-chosen.result form t.0)
+    let failed = c.in_ok-failed.failed in
+    let last = subst (λ rec. IsPictureOf plan (last_shape plan rec) c.chosen_of-chosen.result failed form t.0)
     c.in_ok-tallies.ensures.record t.2 in
-    let picture = subst (λ chosen. IsPictureOf plan (last_shape plan c.settle.new.net.rec) chosen form t.0)
+    let lit = subst (λ chosen. IsPictureOf plan (last_shape plan c.settle.new.net.rec) chosen failed form t.0)
     c.chosen_of-chosen.ensures last in
+    let picture = subst
+    (λ down. IsPictureOf plan (last_shape plan c.settle.new.net.rec) (chosen_of plan c.args.asked.now.service) down
+    form t.0)
+    c.in_ok-failed.ensures lit in
     let planned = c.settle.ensures.plan in
     let lawful = subst (λ rec. IsLawfulRecord spanning_tree plan rec) c.in_ok-tallies.ensures.record
     (subst (λ p. IsLawfulRecord spanning_tree p c.in_ok-tallies.tallies) planned c.in_ok-tallies.ensures.lawful) in (

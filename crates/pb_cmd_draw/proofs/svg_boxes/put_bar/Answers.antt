@@ -2,4 +2,4 @@ use Rattle.std.proofs.Common.{◌∙◌, append_assoc}
 use Rattle.pb_cmd_draw.proofs.svg_boxes.put_bar.Goals as goal
 
 pub returns : goal.returns
-returns c = c.in_ok-write.ensures.bytes ∙ simp append_assoc
+returns c = (rw c.cut_sign-sign.ensures at c.in_ok-write.ensures.bytes) ∙ simp append_assoc

@@ -8,5 +8,5 @@ use Rattle.pb_draw_layout.proofs.marks.bridge_marks.Given as goal
 abbrev pub invariant-loop-place : goal.invariant-loop-place
 invariant-loop-place l =
     map (λ (m : BridgeMark). m.facts) l.marks.items
-    ++ map (bridge_facts l.plan l.shape l.chosen) (numbers_from (l.place + 1) (drop l.place l.plan.bridges)) ≡ map
-    (bridge_facts l.plan l.shape l.chosen) (numbers_from 1 l.plan.bridges)
+    ++ map (bridge_facts l.plan l.failed l.found) (numbers_from (l.place + 1) (drop l.place l.plan.bridges)) ≡ map
+    (bridge_facts l.plan l.failed l.found) (numbers_from 1 l.plan.bridges)

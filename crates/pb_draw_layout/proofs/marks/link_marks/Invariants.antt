@@ -8,5 +8,5 @@ use Rattle.pb_draw_layout.proofs.marks.link_marks.Given as goal
 abbrev pub invariant-loop-place : goal.invariant-loop-place
 invariant-loop-place l =
     map (λ (m : LinkMark). m.facts) l.marks.items
-    ++ map (link_facts l.plan l.shape l.chosen) (numbers_from (l.place + 1) (drop l.place l.plan.links)) ≡ map
-    (link_facts l.plan l.shape l.chosen) (numbers_from 1 l.plan.links)
+    ++ map (link_facts l.plan l.shape l.failed l.found) (numbers_from (l.place + 1) (drop l.place l.plan.links)) ≡ map
+    (link_facts l.plan l.shape l.failed l.found) (numbers_from 1 l.plan.links)

@@ -8,5 +8,5 @@ use Rattle.pb_draw_layout.proofs.marks.port_marks.Given as goal
 abbrev pub invariant-loop-place : goal.invariant-loop-place
 invariant-loop-place l =
     map (λ (m : PortMark). m.facts) l.marks.items
-    ++ map (port_facts l.plan l.chosen) (numbers_from (l.place + 1) (drop l.place l.plan.customers)) ≡ map
-    (port_facts l.plan l.chosen) (numbers_from 1 l.plan.customers)
+    ++ map (port_facts l.plan l.found) (numbers_from (l.place + 1) (drop l.place l.plan.customers)) ≡ map
+    (port_facts l.plan l.found) (numbers_from 1 l.plan.customers)

@@ -1,7 +1,8 @@
 //! Boxes and names of links do not overlap.
 
 use super::plans;
-use pb_cmd_draw::{BridgeMark, LinkMark, Scene, scene_of};
+use pb_cmd_draw::{BridgeMark, Failures, LinkMark, Scene, scene_of};
+use pb_frame::Seq;
 use pb_lan::start_shape;
 use pb_service::read_plan;
 use std::alloc::Global;
@@ -65,7 +66,11 @@ fn scene(rt: &impl Abort, alloc: Global, file: &str) -> Result<Scene, Fail> {
         panic!(rt; "no plan: {file}");
     };
     let shape = start_shape(alloc, &plan)?;
-    Ok(scene_of(alloc, &plan, &shape, None)?)
+    let failed = Failures {
+        bridges: Seq::from_vec(Vec::new(alloc)),
+        links: Seq::from_vec(Vec::new(alloc)),
+    };
+    Ok(scene_of(alloc, &plan, &shape, None, &failed)?)
 }
 
 /// Returns a plan file with `bridges - 1` bridges, each of which is joined to the next `ahead - 1` ones. Only the first
@@ -108,6 +113,49 @@ fn put_link(text: &mut String, near: usize, far: usize, step: usize) -> Result<(
     writeln!(text, "b = \"a-bridge-{far}\"\nb_port = {back}")?;
     writeln!(text, "b_state = \"{state}\"")?;
     Ok(())
+}
+
+/// Returns a plan file of 32 bridges with 64 links: the first bridge has sixteen neighbours, and the second one fifteen
+/// others. The other links are Discarding.
+fn wide_plan(alloc: Global) -> Result<String, Fail> {
+    let mut text = plan_of(alloc, 33, 1)?;
+    for leaf in 2..18usize {
+        put_wide_link(&mut text, (1, leaf - 1), (leaf, 1), "forwarding")?;
+    }
+    for leaf in 18..33usize {
+        put_wide_link(&mut text, (2, leaf - 16), (leaf, 1), "forwarding")?;
+        put_wide_link(&mut text, (leaf - 15, 2), (leaf, 2), "discarding")?;
+        put_wide_link(&mut text, (leaf - 15, 3), (50 - leaf, 3), "discarding")?;
+    }
+    for near in 3..6usize {
+        put_wide_link(&mut text, (near, 4), (near + 20, 4), "discarding")?;
+    }
+    Ok(text)
+}
+
+/// Appends a link between two bridges with their ports, and the state of its second end.
+fn put_wide_link(
+    text: &mut String,
+    near: (usize, usize),
+    far: (usize, usize),
+    state: &str,
+) -> Result<(), Fail> {
+    let ((a, a_port), (b, b_port)) = (near, far);
+    writeln!(text, "[[link]]\nname = \"link-{a}-{b}-{b_port}\"")?;
+    writeln!(text, "a = \"a-bridge-{a}\"\na_port = {a_port}")?;
+    writeln!(text, "b = \"a-bridge-{b}\"\nb_port = {b_port}")?;
+    writeln!(text, "b_state = \"{state}\"")?;
+    Ok(())
+}
+
+#[test]
+fn wide_levels_wrap(rt: HostRuntime) -> Result<(), Fail> {
+    let alloc = rt.alloc();
+    let file = wide_plan(alloc)?;
+    let scene = scene(&rt, alloc, file.as_str())?;
+    assert_eq!(rt; scene.links.len(), 64usize);
+    assert!(rt; scene.size.x as u64 <= scene.size.y as u64 * 2);
+    are_all_apart(&rt, alloc, &scene)
 }
 
 #[test]

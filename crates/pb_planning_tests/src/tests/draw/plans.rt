@@ -87,14 +87,39 @@ pub(super) const GIVEN_PIECES: &[Piece] = &[
     ),
     ("<title>service red, VID 100</title>", 1),
     ("<title>service blue, VID 200</title>", 1),
-    ("<g class=\"link active plain\">", 2),
-    ("<g class=\"link idle plain\">", 1),
-    ("<g class=\"ends active plain\">", 2),
-    ("<g class=\"bridge plain\"", 3),
-    ("<g class=\"port c0 d1 plain\"", 2),
-    ("<g class=\"port c1 d1 plain\"", 1),
-    ("class=\"discarding\"", 1),
-    ("class=\"forwarding\"", 5),
+    ("class=\"link active plain\"", 2),
+    ("class=\"link standby plain\"", 1),
+    ("class=\"ends active plain\"", 2),
+    ("class=\"bridge up plain\"", 3),
+    ("class=\"port c0 d1 plain up\"", 2),
+    ("class=\"port c1 d1 plain up\"", 1),
+    ("<g id=\"bridge-B2\" ", 1),
+    ("<g id=\"link-L1\" ", 1),
+    ("<g id=\"ends-L1\" ", 1),
+    ("<g id=\"port-C3\" ", 1),
+    ("<g id=\"service-blue\" ", 1),
+    (
+        "data-bridge=\"B2\" data-role=\"bridge\" data-state=\"up\"",
+        1,
+    ),
+    (
+        "data-link=\"L2\" data-a=\"B2:1\" data-b=\"B3:2\" data-state=\"active\"",
+        2,
+    ),
+    (
+        "data-port=\"C3\" data-bridge=\"B2\" data-service=\"blue\" data-state=\"up\"",
+        1,
+    ),
+    ("data-service=\"blue\" data-vid=\"200\"", 1),
+    (
+        "class=\"discarding\" data-bridge=\"B3\" data-port=\"1\" data-state=\"discarding\"",
+        1,
+    ),
+    ("class=\"forwarding\" data-", 5),
+    ("data-key=\"active\"", 1),
+    ("data-key=\"standby\"", 1),
+    ("data-key=\"discarding\"", 1),
+    ("data-key=", 3),
     (">L1</text>", 1),
     (">L2 (loses)</text>", 1),
     (">C2 red</text>", 1),
@@ -102,18 +127,40 @@ pub(super) const GIVEN_PIECES: &[Piece] = &[
     ("</svg>\n", 1),
 ];
 
-/// The service blue: L1 alone carries it, between B1 and B2.
+/// The service blue: L1 carries it, and has a customer port on one side alone.
 pub(super) const BLUE_PIECES: &[Piece] = &[
     ("<g class=\"c1\">", 1),
-    ("<g class=\"link active lit\">", 1),
-    ("<g class=\"link active faint\">", 1),
-    ("<g class=\"link idle faint\">", 1),
-    ("<g class=\"bridge lit\"", 2),
-    ("<g class=\"bridge faint\"", 1),
-    ("<g class=\"port c1 d1 lit\"", 1),
-    ("<g class=\"port c0 d1 faint\"", 2),
-    ("<g class=\"service c1 d1 lit\"", 1),
-    ("<g class=\"service c0 d1 faint\"", 1),
+    ("class=\"link active lit\"", 0),
+    ("class=\"link active faint\"", 2),
+    ("class=\"link standby faint\"", 1),
+    ("class=\"bridge up lit\"", 1),
+    ("class=\"bridge up faint\"", 2),
+    ("class=\"port c1 d1 lit up\"", 1),
+    ("class=\"port c0 d1 faint up\"", 2),
+    ("class=\"service c1 d1 lit\"", 1),
+    ("class=\"service c0 d1 faint\"", 1),
+];
+
+/// The service red: the path from C1 to C2 is L1 and L2.
+pub(super) const RED_PIECES: &[Piece] = &[
+    ("<g class=\"c0\">", 1),
+    ("<g id=\"link-L1\" class=\"link active lit\" ", 1),
+    ("<g id=\"link-L2\" class=\"link active lit\" ", 1),
+    ("<g id=\"link-L3\" class=\"link standby faint\" ", 1),
+    ("class=\"bridge up lit\"", 3),
+    ("class=\"port c0 d1 lit up\"", 2),
+    ("data-state=\"cut-off\"", 0),
+];
+
+/// The service red without L2: C1 and C2 are cut off from each other.
+pub(super) const CUT_PIECES: &[Piece] = &[
+    ("<g id=\"link-L1\" class=\"link active faint\" ", 1),
+    ("<g id=\"link-L2\" class=\"link failed faint\" ", 1),
+    ("class=\"bridge up lit\"", 2),
+    ("class=\"port c0 d1 lit cut-off\"", 2),
+    ("class=\"port c1 d1 faint up\"", 1),
+    ("data-state=\"cut-off\"", 2),
+    ("data-key=\"cut-off\"", 1),
 ];
 
 /// L1 is disabled at B2.
@@ -122,8 +169,16 @@ pub(super) const DOWN_PIECES: &[Piece] = &[
         "<title>link L1: B1 port 1 forwarding, B2 port 2 discarding</title>",
         1,
     ),
-    ("<g class=\"link active plain\">", 1),
-    ("<g class=\"link idle plain\">", 2),
+    ("class=\"link active plain\"", 1),
+    ("class=\"link standby plain\"", 1),
+    ("class=\"link failed plain\"", 1),
+    (
+        "class=\"disabled\" data-bridge=\"B2\" data-port=\"2\" data-state=\"disabled\"",
+        1,
+    ),
+    ("class=\"forwarding\" data-bridge=\"B1\" data-port=\"1\"", 1),
+    ("data-key=\"failed\"", 1),
+    ("data-key=\"failed-bridge\"", 0),
 ];
 
 /// L1 is disabled at both ends.
@@ -136,8 +191,10 @@ pub(super) const LINK_PIECES: &[Piece] = &[
         "<title>link L3: B3 port 1 discarding, B1 port 2 forwarding</title>",
         1,
     ),
-    ("<g class=\"link active plain\">", 1),
-    ("<g class=\"link idle plain\">", 2),
+    ("class=\"link active plain\"", 1),
+    ("class=\"link standby plain\"", 1),
+    ("class=\"link failed plain\"", 1),
+    ("class=\"disabled\" data-", 2),
 ];
 
 /// L1 and L2 are disabled at both ends, with the bridge B2.
@@ -154,7 +211,12 @@ pub(super) const BRIDGE_PIECES: &[Piece] = &[
         "<title>link L3: B3 port 1 discarding, B1 port 2 forwarding</title>",
         1,
     ),
-    ("<g class=\"link idle plain\">", 3),
+    ("class=\"link failed plain\"", 2),
+    ("class=\"link standby plain\"", 1),
+    ("class=\"bridge failed plain\"", 1),
+    ("class=\"bridge up plain\"", 2),
+    ("<path d=\"M0 0L", 1),
+    ("data-key=\"failed-bridge\"", 1),
 ];
 
 /// The link B1 is disabled at both ends, with the bridge B2.
@@ -176,14 +238,19 @@ pub(super) const RING_PIECES: &[Piece] = &[
         "<title>link c: B1 port 2 forwarding, B2 port 2 discarding</title>",
         1,
     ),
-    ("<g class=\"link active plain\">", 2),
-    ("<g class=\"link idle plain\">", 1),
+    ("class=\"link active plain\"", 2),
+    ("class=\"link standby plain\"", 1),
+    ("data-bridge=\"B0\" data-role=\"root\" data-state=\"up\"", 1),
+    ("data-role=\"root\"", 1),
+    (">root</text>", 1),
+    ("data-key=\"root\"", 1),
 ];
 
-/// Before the first tick every port is Discarding.
+/// Before the first tick every port is Discarding, and each bridge is the root of its own tree.
 pub(super) const UNSETTLED_PIECES: &[Piece] = &[
-    ("class=\"discarding\"", 6),
-    ("<g class=\"link idle plain\">", 3),
+    ("class=\"discarding\" data-", 6),
+    ("class=\"link standby plain\"", 3),
+    ("data-role=\"root\"", 3),
 ];
 
 pub(super) const DOT_PIECES: &[Piece] = &[
@@ -208,4 +275,15 @@ pub(super) const DOT_PIECES: &[Piece] = &[
         1,
     ),
     ("label=\"L2 (loses)\"", 1),
+];
+
+/// L1 and L2 are disabled at both ends, with the bridge B2.
+pub(super) const DOT_DOWN_PIECES: &[Piece] = &[
+    (
+        "b2 [shape=box, color=red, fontcolor=red, label=\"B2\", tooltip=\"bridge B2, ",
+        1,
+    ),
+    ("arrowhead=box, color=red, fontcolor=red, label=\"L", 2),
+    ("style=dashed, color=gray50, label=\"L3\"", 1),
+    ("color=red, fontcolor=red", 3),
 ];

@@ -1,0 +1,8 @@
+use Rattle.std.proofs.Common.{◌≡◌, ◌++◌, drop, flat_map, string_bytes}
+use Rattle.pb_cmd_draw.specs.SvgKeys.{key_element}
+use Rattle.pb_cmd_draw.proofs.svg.put_keys.Given as goal
+
+abbrev pub invariant-loop-mark : goal.invariant-loop-mark
+invariant-loop-mark l =
+    string_bytes l.out ++ flat_map key_element (drop l.mark-index l.marks) ≡ string_bytes l.initial.out
+    ++ flat_map key_element l.marks
