@@ -3,13 +3,17 @@
 //! Each test is a table of rows, and each row is a run with its result. Each run ends by itself, and has the same
 //! result in any schedule.
 
-ghost use Rattle.std.specs.Prelude.{◌≡◌, IfOk};
+ghost use Rattle.std.specs.Prelude.{◌≡◌, ◌≢◌, IfOk, IfErr};
+ghost use Rattle.std.specs.Io.KnownBytes.{Keeps};
+ghost use Rattle.pb_cmd_run.specs.Faults.{ComesOf};
 ghost use Rattle.pb_cmd_run.specs.Networks.{HasCarriedAll};
 ghost use Rattle.pb_run_losses.specs.declared.strictness.Strictness.TheVariants.{Strict as strict};
 
+mod both;
 mod captures;
 mod files;
 mod folder;
+mod generated;
 mod lingering;
 mod lossless;
 mod lost;
@@ -23,6 +27,7 @@ mod reports;
 mod sheet;
 mod staying;
 mod taps;
+mod ticks;
 mod times;
 
 use self::sheet::Sheet;
@@ -119,7 +124,8 @@ fn no_traffic(alloc: Global) -> Result<Arc<Traffic, Global>, AllocError> {
 }
 
 /// Runs the network of a plan file. Its contract says that the network has carried all frames if a strict run has the
-/// exit status 0.
+/// exit status 0. Of the faults `Ports` never comes, each other one has its reason in the file, and only `Write` comes
+/// after something was written.
 fn carry<R, W: Write, E: Write>(
     rt: &R,
     alloc: Global,
@@ -136,12 +142,18 @@ where
         + Wait
         + Clock
         + Sync,
-    ensures { IfOk result (λ told. manner.strictness ≡ strict →
-        IfOk told.result (λ status. status ≡ 0 → HasCarriedAll file.now)) }
+    ensures carried { IfOk result (λ told. manner.strictness ≡ strict →
+        IfOk told.result (λ status. status ≡ 0 →
+        HasCarriedAll file.now (W.contents writer.old) (W.contents writer.new))) }
+    ensures ports { IfOk result (λ told. IfErr told.result (λ e. e ≢ NetworkFault.Ports)) }
+    ensures due { IfOk result (λ told. IfErr told.result (ComesOf file.now)) }
+    ensures none { IfOk result (λ told. IfErr told.result (λ e. e ≢ NetworkFault.Write →
+        Keeps (W.contents writer.old) (W.contents writer.new))) }
 {
     let traffic = no_traffic(alloc)?;
     let file = file.as_bytes();
     let settings = RunSettings {
+        input: None,
         plan: manner.path,
         control: None,
         settles: false,

@@ -5,6 +5,7 @@ mod carried;
 mod counts;
 mod devices;
 mod draft;
+mod explained;
 mod frames;
 mod gates;
 mod guests;

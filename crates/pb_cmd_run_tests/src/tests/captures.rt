@@ -9,7 +9,7 @@ use std::test::Fail;
 use std::{fs, io};
 
 /// The plan file.
-const PLAN: &str =
+pub(super) const PLAN: &str =
     r#"# The metro ring of metro.toml between capture files: what the provider and a camera sent is read from captures,
 # and what leaves at each of the seven sites is written to one. Paths are those seen from the project's folder.
 

@@ -88,6 +88,7 @@ impl RunProgress for Counter {
             PeerChange::Connected => {
                 self.came.fetch_add(1, Ordering::SeqCst);
             }
+            PeerChange::Unaccepted => {}
             PeerChange::Left {
                 entered,
                 left,
@@ -202,6 +203,7 @@ where
         control: None,
         settles: false,
         linger: 100,
+        input: None,
     };
     let (file, lenient) = (file.as_bytes(), Strictness::Lenient);
     Ok(run_network(

@@ -1,7 +1,7 @@
 //! The texts of `check` and `show`.
 
-ghost use Rattle.std.specs.Prelude.{◌≡◌, ◌⊎◌, [], ◌∷◌, flat_map, ℕ, List, OnOk, IfOk};
-ghost use Rattle.std.specs.Io.KnownBytes.{Appends};
+ghost use Rattle.std.specs.Prelude.{◌≡◌, ◌≢◌, ◌⊎◌, [], ◌∷◌, flat_map, ℕ, List, OnOk, IfOk, IfErr};
+ghost use Rattle.std.specs.Io.KnownBytes.{Appends, Keeps};
 ghost use Rattle.pb_cmd_check.specs.Checks.{IsPlanText};
 ghost use Rattle.pb_cmd_check.specs.Shows.{fate_line};
 ghost use Rattle.pb_frame.specs.Admission.{block};
@@ -82,10 +82,12 @@ const FOR_RED: &str = "a_services = [\"red\"]\nb_services = [\"red\"]\n";
 const FOR_BLUE: &str = "a_services = [\"blue\"]\nb_services = [\"blue\"]\n";
 
 /// Calls `run_check` with what a caller may conclude: the status 0 with the counts of the plan, or 1 with the rule that
-/// the file breaks.
+/// the file breaks. Of the faults only `Write` and `Memory` come, and only `Write` after something was written.
 fn checked<W: Write>(alloc: Global, file: &[u8], writer: &mut W) -> Result<u8, CommandFault>
-    ensures { IfOk result (λ status. (text : List ℕ) × Appends (W.contents writer.old) (W.contents writer.new) text
+    ensures ok { IfOk result (λ status. (text : List ℕ) × Appends (W.contents writer.old) (W.contents writer.new) text
         × (((status ≡ 0) × IsPlanText file.now text) ⊎ ((status ≡ 1) × IsRefusalText file.now text))) }
+    ensures kinds { IfErr result (λ e. (e ≡ CommandFault.Write) ⊎ (e ≡ CommandFault.Memory)) }
+    ensures none { IfErr result (λ e. e ≢ CommandFault.Write → Keeps (W.contents writer.old) (W.contents writer.new)) }
 {
     run_check(alloc, file, writer)
 }

@@ -1,7 +1,7 @@
 //! Starter plans in all topologies.
 
-ghost use Rattle.std.specs.Prelude.{◌++◌, flat_map, OnOk};
-ghost use Rattle.std.specs.Io.KnownBytes.{Appends};
+ghost use Rattle.std.specs.Prelude.{◌≡◌, ◌≢◌, ◌⊎◌, ◌++◌, flat_map, OnOk, IfErr};
+ghost use Rattle.std.specs.Io.KnownBytes.{Appends, Keeps};
 ghost use Rattle.std.specs.List.{range_with_len};
 ghost use Rattle.pb_cmd_init.specs.PlanTexts.{head_text, keys_text, further_text, places_text, bridge_text};
 ghost use Rattle.pb_cmd_init.specs.PlanTexts.{link_text, services_text, ports_text, kinds_text, failures_text};
@@ -110,14 +110,15 @@ fn tried(alloc: Global, file: &[u8], first: u32, last: u32) -> Result<(String, u
 }
 
 /// Calls `write_plan` with what a caller may conclude: a table for each bridge, link, service and customer port, in
-/// order, between the keys of the network and the suggestions.
+/// order, between the keys of the network and the suggestions. Of the faults only `Write` and `Memory` come, and only
+/// `Write` after something was written.
 fn begun<W: Write>(
     alloc: Global,
     topology: Topology,
     services: u8,
     writer: &mut W,
 ) -> Result<(), CommandFault>
-    ensures { OnOk result (Appends (W.contents writer.old) (W.contents writer.new)
+    ensures ok { OnOk result (Appends (W.contents writer.old) (W.contents writer.new)
         (head_text ++ keys_text topology ++ further_text ++ places_text
         ++ flat_map bridge_text (range_with_len 1 (bridge_count topology))
         ++ flat_map (link_text topology) (range_with_len 1 (link_count topology))
@@ -125,6 +126,8 @@ fn begun<W: Write>(
         ++ flat_map (ports_text topology) (range_with_len 1 (service_count services))
         ++ kinds_text (site_bridge topology 1) (service_count services)
         ++ failures_text topology)) }
+    ensures kinds { IfErr result (λ e. (e ≡ CommandFault.Write) ⊎ (e ≡ CommandFault.Memory)) }
+    ensures none { IfErr result (λ e. e ≢ CommandFault.Write → Keeps (W.contents writer.old) (W.contents writer.new)) }
 {
     write_plan(alloc, topology, services, writer)
 }

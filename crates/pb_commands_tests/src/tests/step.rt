@@ -116,6 +116,30 @@ fn names_that_the_plan_lacks_are_told(rt: HostRuntime) -> Result<(), Fail> {
     says(&rt, alloc, "take L2 ab\nput C1 ba\n", "no such\nno such\n")
 }
 
+/// Shows that the reply `relayed` names no port if no other port of the bridge is of the frame's service.
+#[test]
+fn a_frame_with_no_other_port_of_its_service_is_relayed_to_none(
+    rt: HostRuntime,
+) -> Result<(), Fail> {
+    let alloc = rt.alloc();
+    // The link's end at B2 takes red alone, and customer port C3 is the only one of blue.
+    let Some((front, back)) = two_bridges::PLAN.split_once("b_port = 1\n") else {
+        assert!(rt; false, "the plan has another link");
+        return Ok(());
+    };
+    let plan = format!(in alloc; "{front}b_port = 1\nb_services = [\"red\"]\n{back}")?;
+    drives(
+        &rt,
+        alloc,
+        plan.as_str(),
+        "poll C3 ffffffffffff0200000003030800\nfeed C3\nreceive B2 3\ntransmit B2 1\n",
+        "polled C3 0\nfed\nrelayed\nidle\n\
+        port C1 entered 0 left 0 filtered 0\nport C2 entered 0 left 0 filtered 0\n\
+        port C3 entered 1 left 0 filtered 0\nlink L1 ab taken 0 lost 0 ba taken 0 lost 0\nforest yes\n",
+    );
+    Ok(())
+}
+
 #[test]
 fn the_limit_of_steps_ends_a_run(rt: HostRuntime) -> Result<(), Fail> {
     let alloc = rt.alloc();

@@ -17,6 +17,7 @@ use std::thread::Threads;
 use std::time::Clock;
 
 /// A run that drains.
+#[derive(Drop)]
 struct Row {
     setup: Setup<'static>,
     /// The number of polls of ports of the tests' own.
@@ -215,6 +216,78 @@ fn a_lane_loses_the_second_of_three(rt: HostRuntime) -> Result<(), Fail> {
         most: 6,
     };
     drains(&rt, rt.alloc(), &ROW)
+}
+
+/// A thousand broadcasts over the link, in at most ten million turns.
+const THOUSAND: Setup<'static> = Setup {
+    draft: Draft {
+        queue: 1_024,
+        ring: 1_024,
+        ..PAIR
+    },
+    ports: &[Outer::Memory(1_000), Outer::Memory(0), Outer::Memory(0)],
+    limits: Limits {
+        turns: 10_000_000,
+        tick_every: 0,
+        tick_ms: 0,
+        hold: 0,
+    },
+    left: &[],
+};
+
+/// Checks that a thousand broadcasts over these links leave as these frames, and that the first lane loses one.
+fn loses_one<R: Abort + Threads + Wait + Clock + Sync>(
+    rt: &R,
+    alloc: Global,
+    links: &'static [Joint],
+    left: &'static [Frames],
+) -> Result<(), Fail> {
+    let row = Row {
+        setup: Setup {
+            draft: Draft {
+                links,
+                ..THOUSAND.draft
+            },
+            left,
+            ..THOUSAND
+        },
+        polls: 0,
+        link: [(1_000, 1), (0, 0)],
+        most: 2_000,
+    };
+    drains(rt, alloc, &row)
+}
+
+/// Shows that a list with 0 loses exactly the first frame.
+#[test]
+fn a_lane_loses_the_first_of_a_thousand_and_no_other(rt: HostRuntime) -> Result<(), Fail> {
+    const LINKS: &[Joint] = &[Joint {
+        a: (1, 1),
+        b: (2, 1),
+        lost: &[0],
+    }];
+    const LEFT: &[Frames] = &[
+        Frames::First(0),
+        Frames::Without(1_000, 0),
+        Frames::First(0),
+    ];
+    loses_one(&rt, rt.alloc(), LINKS, LEFT)
+}
+
+/// Shows that a list with 1 loses exactly the second frame.
+#[test]
+fn a_lane_loses_the_second_of_a_thousand_and_no_other(rt: HostRuntime) -> Result<(), Fail> {
+    const LINKS: &[Joint] = &[Joint {
+        a: (1, 1),
+        b: (2, 1),
+        lost: &[1],
+    }];
+    const LEFT: &[Frames] = &[
+        Frames::First(0),
+        Frames::Without(1_000, 1),
+        Frames::First(0),
+    ];
+    loses_one(&rt, rt.alloc(), LINKS, LEFT)
 }
 
 #[test]

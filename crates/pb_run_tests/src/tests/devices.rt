@@ -1,5 +1,6 @@
 //! Ports whose device fails at one of its calls. A frame takes four calls.
 
+use super::draft::Draft;
 use super::frames::Frames;
 use super::gates::Open;
 use super::networks::STAR;
@@ -50,6 +51,32 @@ fn a_failed_write_leaves_the_other_ports(rt: HostRuntime) -> Result<(), Fail> {
         let wanted = (Some(Ended::Drained), true, unwritten, call.min(12));
         assert_eq!(rt; written(&rt, rt.alloc(), call, least)?, wanted, "{call}");
     }
+    Ok(())
+}
+
+/// Shows that the Deliver step of a frame after a failed write has `gone` true. The port writes after 32 turns at the
+/// latest, so that it takes some frames of a hundred and not the others.
+#[test]
+fn a_port_whose_write_failed_takes_no_more(rt: HostRuntime) -> Result<(), Fail> {
+    const SETUP: Setup<'static> = Setup {
+        draft: Draft {
+            queue: 128,
+            ring: 128,
+            ..STAR
+        },
+        ports: &[
+            Outer::Memory(100),
+            Outer::Stream(0, Broken::Write(1)),
+            Outer::Memory(0),
+        ],
+        limits: LONG,
+        left: &[Frames::First(0), Frames::Least(1), Frames::First(100)],
+    };
+    let told = ran(&rt, rt.alloc(), &SETUP, &Open, Way::Kept)?;
+    let port = told.outside[1];
+    assert!(rt; told.ended == Some(Ended::Drained) && told.is_left);
+    assert_eq!(rt; (port.first, port.newest), (Some(false), Some(true)));
+    assert_eq!(rt; port.left.saturating_add(port.gone), 100);
     Ok(())
 }
 

@@ -17,6 +17,8 @@ pub(super) enum Frames {
     Least(u32),
     /// Those of these numbers.
     These(&'static [u32]),
+    /// This many, numbered from 0 on, without the one of this number.
+    Without(u32, u32),
 }
 
 /// Returns the broadcast of a number: 18 octets.
@@ -61,6 +63,13 @@ pub(super) fn are_frames(frames: &[Bytes], wanted: Frames) -> bool {
                     .iter()
                     .zip(0..u32::MAX)
                     .all(|(frame, number)| is_frame(frame, number))
+        }
+        Frames::Without(count, gap) => {
+            frames.len() == (count as usize).saturating_sub(1)
+                && frames.iter().zip(0..count).all(|(frame, place)| is_frame(
+                    frame,
+                    place.saturating_add(u32::from(gap <= place)),
+                ))
         }
         Frames::These(numbers) => {
             frames.len() == numbers.len()

@@ -2,6 +2,7 @@
 
 use super::activity::PortActivity;
 use super::draft::Draft;
+use super::explained::{run_counted, run_recorded};
 use super::frames::{Frames, script_of};
 use super::guests::{Guest, Habit};
 use super::plans::plan_of;
@@ -10,7 +11,7 @@ use super::told::{NOTHING, Told, tell, tell_counted, tell_fault};
 use pb_frame::Memory;
 use pb_lan::{Limits, Plan, plan_is_sound};
 use pb_port::{MemoryPort, SocketPort};
-use pb_run::{Gate, Held, KeptRun, Ran, RunFault, run, run_kept, run_set};
+use pb_run::{Gate, Held, KeptRun, Ran, RunFault, run_set};
 use std::alloc::Global;
 use std::sync::{Arc, Wait};
 use std::thread::Threads;
@@ -174,10 +175,13 @@ fn ran_with<G: Gate, R: Threads + Wait + Clock + Sync>(
     match way {
         Way::Kept | Way::Lossless => {
             let is_lossless = matches!(way, Way::Lossless);
-            let outcome = run_kept(rt, alloc, plan, ports, gate, limits, is_lossless);
+            let outcome = run_recorded(rt, alloc, plan, ports, gate, limits, is_lossless);
             told_of_kept(alloc, outcome, setup.left, activity.polls())
         }
-        Way::Counted => told_of(alloc, run(rt, alloc, plan, ports, gate, limits, false)),
+        Way::Counted => {
+            let outcome = run_counted(rt, alloc, plan, ports, gate, limits, false);
+            told_of(alloc, outcome)
+        }
         Way::Set => told_of(alloc, run_set(rt, alloc, plan, ports, gate, limits, false)),
     }
 }

@@ -21,6 +21,9 @@ pub(super) struct Outside {
     /// The number of frames that left, and of those that could not, because the port was gone.
     pub(super) left: usize,
     pub(super) gone: usize,
+    /// Whether the port was gone at its first step, and at its last one, if these are Deliver steps.
+    pub(super) first: Option<bool>,
+    pub(super) newest: Option<bool>,
     /// The number of frames that the port keeps, sent or not.
     pub(super) kept: usize,
 }
@@ -66,6 +69,8 @@ pub(super) const NOWHERE: Outside = Outside {
     script: None,
     left: 0,
     gone: 0,
+    first: None,
+    newest: None,
     kept: 0,
 };
 
@@ -173,6 +178,27 @@ fn gone(steps: &[Step]) -> usize {
     gone
 }
 
+/// Returns whether the port was gone at a Deliver step.
+fn gone_at(step: &Step) -> Option<bool> {
+    match step {
+        Step::Deliver { gone, .. } => Some(*gone),
+        _ => None,
+    }
+}
+
+/// Notes the steps of a customer port.
+fn tell_deliveries(steps: &[Step], outside: &mut Outside) {
+    outside.gone = gone(steps);
+    outside.first = match steps.first() {
+        Some(step) => gone_at(step),
+        None => None,
+    };
+    outside.newest = match steps.last() {
+        Some(step) => gone_at(step),
+        None => None,
+    };
+}
+
 /// Returns the number of frames in a list and of those that a port still gives after them, if they are a script's from
 /// its beginning on. A port that waits is polled on.
 fn script_of(frames: Vec<Bytes>, port: &mut Held) -> Result<Option<usize>, Memory> {
@@ -205,18 +231,16 @@ fn seen_at(
     last: Option<Last>,
     port: &mut Held,
 ) -> Result<Outside, Memory> {
+    let mut outside = NOWHERE;
     let place = usize::from(number).saturating_sub(1);
-    let gone = match rec.customers.as_slice().get(place) {
-        Some(steps) => gone(steps.as_slice()),
-        None => 0,
-    };
-    Ok(Outside {
-        last,
-        script: script_of(entered(alloc, rec, number)?, port)?,
-        left: left(alloc, rec, number)?.len(),
-        gone,
-        kept: kept(alloc, port),
-    })
+    if let Some(steps) = rec.customers.as_slice().get(place) {
+        tell_deliveries(steps.as_slice(), &mut outside);
+    }
+    outside.last = last;
+    outside.script = script_of(entered(alloc, rec, number)?, port)?;
+    outside.left = left(alloc, rec, number)?.len();
+    outside.kept = kept(alloc, port);
+    Ok(outside)
 }
 
 /// Checks whether exactly the expected frames left each customer port.
