@@ -3,6 +3,8 @@
 ghost use Rattle.std.specs.Prelude.{◌≡◌, ◌⊎◌, IfErr};
 ghost use Rattle.std.specs.Process.{exit_status};
 
+use crate::asked::json_command;
+use crate::formatted::tell_document;
 use crate::telling::{WRONG_ARGUMENTS, tell};
 use clap::Error;
 use clap::error::ErrorKind as ArgumentFault;
@@ -25,13 +27,24 @@ fn read_arguments(rt: &(impl Env + AllocGlobal)) -> io::Result<Vec<String>> {
     Ok(arguments)
 }
 
+/// Reports that an allocation failed before the command line was read: in a JSON document if it asks for one. Returns
+/// the exit status 3.
+fn lack_memory(rt: &(impl Env + Print)) -> ExitCode
+    ensures { exit_status result ≡ 3 }
+{
+    match json_command(rt) {
+        Some(command) => tell_document(rt, command, CommandFault::Memory),
+        None => tell(rt, CommandFault::Memory),
+    }
+}
+
 /// Reports why the arguments of the command line cannot be read. Returns the exit status: 2 if one is not valid UTF-8,
 /// 3 if an allocation failed.
-fn unread(rt: &(impl Print + Eprint), error: &io::Error) -> ExitCode
+fn unread(rt: &(impl Env + Print + Eprint), error: &io::Error) -> ExitCode
     ensures { (exit_status result ≡ 2) ⊎ (exit_status result ≡ 3) }
 {
     if error.kind() == ErrorKind::OutOfMemory {
-        return tell(rt, CommandFault::Memory);
+        return lack_memory(rt);
     }
     let _ = eprintln!(rt; "error: an argument is not valid UTF-8");
     ExitCode::from(WRONG_ARGUMENTS)
@@ -55,11 +68,11 @@ pub(crate) fn arguments_of(
 
 /// Prints the message of the parser. Returns the exit status: 0 after the help or the version, 2 if the arguments are
 /// refused, 3 if an allocation failed.
-pub(crate) fn refuse(rt: &(impl Print + Eprint), error: Error) -> ExitCode
+pub(crate) fn refuse(rt: &(impl Env + Print + Eprint), error: Error) -> ExitCode
     ensures { (exit_status result ≡ 0) ⊎ (exit_status result ≡ 2) ⊎ (exit_status result ≡ 3) }
 {
     if error.kind() == ArgumentFault::OutOfMemory {
-        return tell(rt, CommandFault::Memory);
+        return lack_memory(rt);
     }
     let _ = error.print(rt);
     if error.use_stderr() {

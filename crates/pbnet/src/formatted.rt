@@ -1,6 +1,7 @@
 //! Reports as text, JSON or CSV.
 
 ghost use Rattle.std.specs.Prelude.{◌≡◌};
+ghost use Rattle.std.specs.Process.{exit_status};
 
 use crate::telling::{FAULT, tell_on};
 use pb_cli::{ReportFormat, VERSION};
@@ -29,6 +30,17 @@ pub(crate) fn head<'a>(command: &'a str, plan: &'a str) -> Head<'a>
     }
 }
 
+/// Prints the JSON document of a command that has a fault and no plan, without an allocation. Returns the exit status
+/// 3. If the write fails, nothing reports that.
+pub(crate) fn tell_document(rt: &impl Print, command: &str, fault: impl Display + Drop) -> ExitCode
+    ensures { exit_status result ≡ 3 }
+{
+    let _ = println!(rt;
+        "{{\"command\": \"{command}\", \"version\": \"{VERSION}\", \"plan\": null, \"fault\": \"{fault}\"}}"
+    );
+    ExitCode::from(FAULT)
+}
+
 /// The writer of a report: standard output for text, memory for a document.
 #[derive(Drop)]
 pub(crate) struct Output<'a, R> {
@@ -41,6 +53,8 @@ pub(crate) struct Output<'a, R> {
     kept: Vec<u8>,
     /// Whether a plan file was refused because an allocation failed.
     lacks_memory: bool,
+    /// Whether an allocation for octets of a document failed.
+    has_gap: bool,
 }
 
 impl<'a, R: Print + AllocGlobal> Output<'a, R> {
@@ -52,6 +66,7 @@ impl<'a, R: Print + AllocGlobal> Output<'a, R> {
             head,
             kept: Vec::new(rt.alloc()),
             lacks_memory: false,
+            has_gap: false,
         }
     }
 
@@ -88,6 +103,9 @@ impl<'a, R: Print + AllocGlobal> Output<'a, R> {
         if self.format == ReportFormat::Text {
             return status;
         }
+        if self.has_gap {
+            return self.fail(CommandFault::Memory);
+        }
         match self.document(form, table) {
             Ok(document) if io::writer(self.rt).write_all(document.as_slice()).is_ok() => status,
             Ok(_) => self.fail(CommandFault::Write),
@@ -98,10 +116,7 @@ impl<'a, R: Print + AllocGlobal> Output<'a, R> {
     /// Prints a document with this fault and no plan, if the form is JSON. Returns the exit status 3.
     fn fail(&self, fault: impl Display + Drop) -> ExitCode {
         if self.format == ReportFormat::Json {
-            let command = self.head.command;
-            let _ = println!(self.rt;
-                "{{\"command\": \"{command}\", \"version\": \"{VERSION}\", \"plan\": null, \"fault\": \"{fault}\"}}"
-            );
+            return tell_document(self.rt, self.head.command, fault);
         }
         ExitCode::from(FAULT)
     }
@@ -114,7 +129,11 @@ impl<R: Print> Write for Output<'_, R> {
         }
         match self.format {
             ReportFormat::Text => io::writer(self.rt).write(octets),
-            ReportFormat::Json | ReportFormat::Csv => self.kept.write(octets),
+            ReportFormat::Json | ReportFormat::Csv => {
+                let written = self.kept.write(octets);
+                self.has_gap = self.has_gap || written.is_err();
+                written
+            }
         }
     }
 

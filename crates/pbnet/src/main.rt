@@ -7,12 +7,14 @@
 
 mod accept;
 mod arguments;
+mod asked;
 mod check;
 mod control;
 mod described;
 mod diff;
 mod downs;
 mod draw;
+mod errors;
 mod flat;
 mod formatted;
 mod looks;
@@ -28,6 +30,7 @@ mod trace;
 mod trees;
 
 use arguments::{arguments_of, refuse};
+use errors::Errors;
 use formatted::{Output, head};
 use messages::complain;
 use noted::Noted;
@@ -44,6 +47,7 @@ use std::alloc::{AllocError, Global};
 use std::fs::{File, Files};
 use std::io::{ErrorKind, IsTerminal, Read, Write};
 use std::net::{Net, TcpListener, TcpStream};
+use std::os::fd::{AsFd, OwnedFd};
 use std::process::ExitCode;
 use std::sync::{Arc, Wait};
 use std::thread::Threads;
@@ -75,9 +79,10 @@ fn main(rt: HostRuntime) -> ExitCode {
             step::step(&rt, &options, by_line, &mut rt.stderr())
         }
         Ok(Some(CommandLine::Run(options))) => {
-            let mut errors = rt.stderr();
-            let shown = shown_on(errors.is_terminal(), options.progress);
-            run(&rt, &options, shown, &mut errors)
+            let shown = shown_on(rt.stderr().is_terminal(), options.progress);
+            let input = rt.stdin().as_fd().try_clone_to_owned().ok();
+            let mut errors = Errors::new(&rt);
+            run(&rt, &options, shown, input, &mut errors)
         }
         Ok(Some(CommandLine::Tree(options))) => tree(&rt, &options),
         Ok(Some(CommandLine::Trace(options))) => trace::trace(&rt, &options),
@@ -162,7 +167,7 @@ fn strictness_of(is_strict: bool) -> Strictness {
 }
 
 /// Returns the settings of a run that are not in its plan file.
-fn settings_of(options: &RunOptions) -> RunSettings<'_> {
+fn settings_of(options: &RunOptions, input: Option<OwnedFd>) -> RunSettings<'_> {
     RunSettings {
         plan: options.path.as_str(),
         control: match &options.control {
@@ -171,6 +176,7 @@ fn settings_of(options: &RunOptions) -> RunSettings<'_> {
         },
         settles: options.settles,
         linger: options.linger,
+        input,
     }
 }
 
@@ -186,7 +192,13 @@ fn new_traffic(alloc: Global) -> Result<Arc<Traffic, Global>, AllocError> {
 
 /// Runs the network of a plan file, and prints the report in the form of the options. A JSON document also has what is
 /// reported on `errors`: losses, paths that could not be used, and warnings. Returns the exit status.
-fn run<R, E: Write>(rt: &R, options: &RunOptions, shown: Shown, errors: &mut E) -> ExitCode
+fn run<R, E: Write>(
+    rt: &R,
+    options: &RunOptions,
+    shown: Shown,
+    input: Option<OwnedFd>,
+    errors: &mut E,
+) -> ExitCode
 where
     R: Files<File = File>
         + Net<Listener = TcpListener, Stream = TcpStream>
@@ -200,7 +212,7 @@ where
 {
     let mut out = Output::new(rt, options.format, head("run", options.path.as_str()));
     let mut noted = Noted::new(rt.alloc(), errors);
-    let told = run_on(rt, options, shown, &mut out, &mut noted);
+    let told = run_on(rt, options, shown, input, &mut out, &mut noted);
     let status = noted.end(options.format, &mut out, told);
     out.end(&RUN, Some(&COUNTS), status)
 }
@@ -211,6 +223,7 @@ fn run_on<R, W: Write, E: Write>(
     rt: &R,
     options: &RunOptions,
     shown: Shown,
+    input: Option<OwnedFd>,
     out: &mut W,
     errors: &mut E,
 ) -> ExitCode
@@ -240,7 +253,7 @@ where
         rt.alloc(),
         file.as_slice(),
         strictness_of(options.strict),
-        &settings_of(options),
+        &settings_of(options, input),
         &traffic,
         &progress,
         out,

@@ -1,9 +1,11 @@
 //! The progress of `run`, and the stop after `--seconds`.
 
+use crate::errors::Errors;
 use pb_cmd_run::{Opening, PeerChange, RunProgress, Traffic};
 use pb_lan::Place;
 use pb_run::{Gate, Go};
-use std::alloc::Global;
+use std::alloc::{AllocError, Global};
+use std::fs::{File, Files};
 use std::sync::Arc;
 use std::sync::atomic::{AtomicU64, Ordering};
 use std::time::{Clock, Duration};
@@ -22,10 +24,12 @@ pub enum Shown {
     Lines,
 }
 
-/// Reports the progress of a run once a second, and stops the run after its seconds. It is the gate of the workers.
+/// Reports the progress of a run once a second, and stops the run after its seconds. It is the gate of the workers. A
+/// report that standard error does not take at once is skipped.
 #[derive(Drop)]
 pub struct RunMonitor<'a, R> {
     rt: &'a R,
+    errors: Errors<'a, R>,
     /// The counters of the run.
     traffic: Arc<Traffic, Global>,
     /// How progress is reported.
@@ -44,7 +48,7 @@ fn end_of<R: Clock>(rt: &R, seconds: Option<u32>) -> Option<Duration> {
     rt.monotonic().ok()?.checked_add(seconds)
 }
 
-impl<'a, R: Clock + Eprint> RunMonitor<'a, R> {
+impl<'a, R: Files<File = File> + Clock + Eprint> RunMonitor<'a, R> {
     /// Creates the monitor of a run that begins now and is stopped after these seconds, if any.
     pub fn new(
         rt: &'a R,
@@ -58,6 +62,7 @@ impl<'a, R: Clock + Eprint> RunMonitor<'a, R> {
         };
         RunMonitor {
             rt,
+            errors: Errors::new(rt),
             traffic,
             shown,
             end: end_of(rt, seconds),
@@ -65,7 +70,9 @@ impl<'a, R: Clock + Eprint> RunMonitor<'a, R> {
             lines: AtomicU64::new(0),
         }
     }
+}
 
+impl<R: Clock + Eprint + AllocGlobal> RunMonitor<'_, R> {
     /// Reads the clock. Reports progress if another second has begun. Returns whether the run continues.
     fn look(&self) -> Go {
         let Ok(now) = self.rt.monotonic() else {
@@ -81,30 +88,36 @@ impl<'a, R: Clock + Eprint> RunMonitor<'a, R> {
         }
     }
 
+    /// Reports a text, if it could be made and standard error takes it now. Returns whether it was reported.
+    fn offer(&self, text: Result<String, AllocError>) -> bool {
+        match text {
+            Ok(text) => self.errors.offer(text.as_str()),
+            Err(_) => false,
+        }
+    }
+
     /// Reports how many frames entered, left and were dropped, how many copies could not be queued, and the ticks of
     /// the clock.
     fn show(&self) {
         let (entered, left) = (self.traffic.entered(), self.traffic.left());
         let (dropped, refused) = (self.traffic.dropped(), self.traffic.refused());
         let ticks = self.traffic.ticks();
-        match self.shown {
-            Shown::Never => {}
-            Shown::OneLine => {
-                let _ = eprint!(self.rt;
-                    "\r{entered} frames entered, {left} left, {dropped} dropped, {refused} copies refused, tick {ticks}"
-                );
-                self.lines.store(1, Ordering::SeqCst);
-            }
-            Shown::Lines => {
-                let _ = eprintln!(self.rt;
-                    "{entered} frames entered, {left} left, {dropped} dropped, {refused} copies refused, tick {ticks}"
-                );
-            }
+        let (begin, end) = match self.shown {
+            Shown::Never => return,
+            Shown::OneLine => ("\r", ""),
+            Shown::Lines => ("", "\n"),
+        };
+        let text = format!(in self.rt.alloc();
+            "{begin}{entered} frames entered, {left} left, {dropped} dropped, {refused} copies refused, \
+             tick {ticks}{end}"
+        );
+        if self.offer(text) && self.shown == Shown::OneLine {
+            self.lines.store(1, Ordering::SeqCst);
         }
     }
 }
 
-impl<R: Clock + Eprint + Sync> Gate for RunMonitor<'_, R> {
+impl<R: Clock + Eprint + AllocGlobal + Sync> Gate for RunMonitor<'_, R> {
     /// Returns whether a worker takes its next turn. Only the worker of the first bridge reads the clock.
     fn pass(&self, place: Place, turn: u64) -> Go {
         if turn % LOOK == 0 && place == Place::Bridge(1) {
@@ -127,24 +140,27 @@ impl<R: Clock + Eprint + Sync> Gate for RunMonitor<'_, R> {
     }
 }
 
-impl<R: Clock + Eprint + Sync> RunProgress for RunMonitor<'_, R> {
+impl<R: Clock + Eprint + AllocGlobal + Sync> RunProgress for RunMonitor<'_, R> {
     /// Reports on a line of its own why frames enter now.
     fn open(&self, opening: Opening) {
         self.close();
-        let _ = match opening {
-            Opening::Settled(ticks) => eprintln!(self.rt; "bridges converged after {ticks} ticks"),
+        let alloc = self.rt.alloc();
+        self.offer(match opening {
+            Opening::Settled(ticks) => {
+                format!(in alloc; "bridges converged after {ticks} ticks\n")
+            }
             Opening::Unsettled(ticks) => {
-                eprintln!(self.rt;
-                    "warning: bridges not converged after {ticks} ticks: frames enter now"
+                format!(in alloc;
+                    "warning: bridges not converged after {ticks} ticks: frames enter now\n"
                 )
             }
-        };
+        });
     }
 
     /// Ends the line of the progress, if one was written.
     fn close(&self) {
         if self.lines.swap(0, Ordering::SeqCst) != 0 {
-            let _ = eprintln!(self.rt; "");
+            self.errors.offer("\n");
         }
     }
 
@@ -153,21 +169,34 @@ impl<R: Clock + Eprint + Sync> RunProgress for RunMonitor<'_, R> {
         self.second.load(Ordering::SeqCst)
     }
 
+    /// Reports on a line of its own that the run waits for the reader of a pipe.
+    fn waits(&self, user: &str) {
+        self.close();
+        let alloc = self.rt.alloc();
+        self.offer(format!(in alloc; "{user}: waiting until its pipe is read\n"));
+    }
+
     /// Reports on a line of its own that the peer of a port came or left.
     fn peer(&self, port: &str, change: PeerChange) {
         self.close();
-        let _ = match change {
-            PeerChange::Connected => eprintln!(self.rt; "port {port}: peer connected"),
+        let alloc = self.rt.alloc();
+        self.offer(match change {
+            PeerChange::Connected => format!(in alloc; "port {port}: peer connected\n"),
+            PeerChange::Unaccepted => {
+                format!(in alloc;
+                    "port {port}: cannot accept a peer: no descriptor or memory is free: trying again\n"
+                )
+            }
             PeerChange::Left {
                 entered,
                 left,
                 dropped,
             } => {
                 let frames = if entered == 1 { "frame" } else { "frames" };
-                eprintln!(self.rt;
-                    "port {port}: peer left: {entered} {frames} in, {left} out, {dropped} dropped"
+                format!(in alloc;
+                    "port {port}: peer left: {entered} {frames} in, {left} out, {dropped} dropped\n"
                 )
             }
-        };
+        });
     }
 }
