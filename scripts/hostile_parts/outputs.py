@@ -1,7 +1,8 @@
-"""closed descriptors, closed and full pipes, and pipes as captures that nobody reads"""
+"""closed descriptors, closed and full pipes, and named pipes whose readers are late, slow or none"""
 import fcntl
 import itertools
 import os
+import re
 import socket
 import subprocess
 import threading
@@ -125,9 +126,17 @@ def full_pipe():
     return reading, writing
 
 
-def endless(outputs):
-    """Returns a plan that never drains, with records in these files."""
-    return replay(outputs) + frames.port("L", "B1", 9, "red", 'kind = "socket"\nlisten = "l.sock"')
+def tap(path):
+    """Returns the table of a tap of the link."""
+    return f'[[tap]]\nlink = "L1"\ndirection = "ab"\nwrite = "{path}"\n'
+
+
+def endless(more):
+    """Returns a plan that never drains, with these tables and a record in R3.out."""
+    return replay(["R3.out"]) + frames.port("L", "B1", 9, "red", 'kind = "socket"\nlisten = "l.sock"') + more
+
+
+RECORD = frames.port("P", "B2", 5, "red", 'kind = "record"\nwrite = "R2.out"')
 
 
 def late(room, words, how, is_stop, prepare):
@@ -178,13 +187,13 @@ class Stuck:
             os.close(end)
 
 
-def timely(part, kind, weakness, words, prepare):
+def timely(part, kind, weakness, words, tables, prepare):
     """Has runs end by --seconds and by `stop`."""
     for is_stop in (False, True):
         most, took = (AFTER_STOP if is_stop else AFTER_TWO), None
         for _ in range(2):
             with part.room("timely") as room:
-                room.write("plan.toml", endless(["R2.out", "R3.out"]))
+                room.write("plan.toml", endless(tables))
                 room.write("in", capture(5000))
                 how = {}
                 took = late(room, words, how, is_stop, lambda room: prepare(room, how))
@@ -198,15 +207,64 @@ def timely(part, kind, weakness, words, prepare):
 
 
 LATE = {
-    "a pipe without a reader": (["run"], lambda room, _: Reader(room, False)),
-    "a pipe whose reader stalls": (["run"], lambda room, _: Reader(room, True)),
-    "standard error full": (["run", "--progress"], lambda _, how: Stuck(how)),
+    "a pipe without a reader": (["run"], RECORD, lambda room, _: Reader(room, False)),
+    "a pipe whose reader stalls": (["run"], RECORD, lambda room, _: Reader(room, True)),
+    "a tap without a reader": (["run"], tap("R2.out"), lambda room, _: Reader(room, False)),
+    "a tap whose reader stalls": (["run"], tap("R2.out"), lambda room, _: Reader(room, True)),
+    "standard error full": (["run", "--progress"], RECORD, lambda _, how: Stuck(how)),
 }
+
+
+class Drain:
+    """Reads a named pipe from some seconds on, with a pause after each part."""
+
+    def __init__(self, path, delay, pause):
+        self.path, self.delay, self.pause, self.got = path, delay, pause, b""
+        self.thread = threading.Thread(target=self.take, daemon=True)
+        self.thread.start()
+
+    def take(self):
+        time.sleep(self.delay)
+        with open(self.path, "rb", buffering=0) as file:
+            while part := file.read(16_384):
+                self.got += part
+                time.sleep(self.pause)
+
+    def join(self):
+        self.thread.join(20)
+        return self.got
+
+
+# Seconds before the reader comes, and after each part that it reads.
+READERS = {"a late reader": (0.5, 0), "a slow reader": (0, 0.003), "a late and slow reader": (1.5, 0.003)}
+# The table that writes a pipe, and the one that writes the same to a file.
+WRITERS = {"a port": (RECORD, ""), "a tap": (tap("R2.out"), tap("R3.out"))}
+WAITS = re.compile(rb"(port P|tap of link L1): waiting until its pipe is read\n")
+
+
+def reads(part):
+    """Has runs that drain at once write pipes whose readers are late or slow: they get what a file gets."""
+    for (reader, (delay, pause)), (writer, tables) in itertools.product(READERS.items(), WRITERS.items()):
+        for count in (0, 1, 6000)[: part.times(3)]:
+            with part.room("reads") as room:
+                room.write("plan.toml", replay([] if tables[1] else ["R3.out"]) + "".join(tables))
+                room.write("in", capture(count))
+                os.mkfifo(room.path / "R2.out")
+                drain = Drain(room.path / "R2.out", delay, pause)
+                ended = room.run(PROGRAM, "run", "--strict", "plan.toml")
+                got, wanted = drain.join(), room.read("R3.out") if count else b""
+                why = crash(ended) or (None if ended.status == 0 else f"exit status {ended.status}")
+                if not why and got != wanted:
+                    why = f"the reader got {len(got)} octets, and the file {len(wanted)}"
+                if not why and WAITS.sub(b"", ended.err):
+                    why = "standard error has more than a note"
+                part.judge(f"outputs, {reader} of {writer}", why, room, ended)
 
 
 def attack(part):
     closed_runs(part)
     closed(part)
     closed_pipes(part)
-    for kind, (words, prepare) in LATE.items():
-        timely(part, f"outputs, {kind}", kind, words, prepare)
+    reads(part)
+    for kind, (words, tables, prepare) in LATE.items():
+        timely(part, f"outputs, {kind}", kind, words, tables, prepare)
