@@ -1,6 +1,7 @@
 #!/usr/bin/env bash
-# Measures how many lines a second `step` processes: a script of 200,000 lines, with broadcasts over a line of four bridges;
-# and how many `flat` processes: as many frames at three ports.
+# Measures how many lines a second `step` processes: a script of 200,000 lines, with broadcasts over lines of 4, 8 and 32
+# bridges, since the cost of an event must not grow with them; and how many `flat` processes: as many frames at three
+# ports.
 set -eu
 cd -- "$(dirname -- "$0")/.."
 
@@ -9,33 +10,34 @@ lines=200000
 folder=$(mktemp -d)
 trap 'rm -rf -- "$folder"' EXIT
 
-# Prints a plan of four bridges in a line, with a customer port at each.
+# Prints a plan of $1 bridges in a line, with a customer port at each.
 plan() {
     printf '[[service]]\nname = "lan"\nvid = 100\n'
-    for b in 1 2 3 4; do
-        printf '[[bridge]]\nname = "B%d"\naddress = "02-00-00-00-00-0%d"\n' "$b" "$b"
+    for b in $(seq "$1"); do
+        printf '[[bridge]]\nname = "B%d"\naddress = "02-00-00-00-00-%02x"\n' "$b" "$b"
         printf '[[port]]\nname = "C%d"\nbridge = "B%d"\nport = 3\nservice = "lan"\n' "$b" "$b"
     done
-    for l in 1 2 3; do
+    for l in $(seq $(($1 - 1))); do
         printf '[[link]]\nname = "L%d"\na = "B%d"\na_port = 1\nb = "B%d"\nb_port = 2\n' "$l" "$l" "$((l + 1))"
     done
 }
 
-# Writes the script: broadcasts of 64 octets enter at C1, cross all bridges and leave each other customer port.
+# Prints the script for $1 bridges: broadcasts of 64 octets enter at C1, cross all bridges and leave each other customer
+# port.
 script() {
-    awk -v lines="$lines" 'BEGIN {
+    awk -v lines="$lines" -v bridges="$1" 'BEGIN {
         payload = sprintf("%0100d", 0)
         frame = "ffffffffffff0200000001010800" payload
         round = "poll C1 " frame "\nfeed C1\nreceive B1 3\n"
         count = 3
-        for (b = 1; b < 4; b++) {
+        for (b = 1; b < bridges; b++) {
             round = round "transmit B" b " 1\ntake L" b " ab\nput L" b " ab\nreceive B" b + 1 " 2\n"
             round = round "transmit B" b + 1 " 3\ndeliver C" b + 1 "\n"
             count += 6
         }
         for (n = 0; n + count <= lines; n += count) printf "%s", round
         for (; n < lines; n++) print "feed C1"
-    }' >"$folder/steps"
+    }'
 }
 
 # Writes as many lines for `flat`, all with the same broadcast.
@@ -66,9 +68,11 @@ measure() {
 find_program
 print_machine
 export GLIBC_TUNABLES=${GLIBC_TUNABLES-glibc.malloc.hugetlb=1}
-plan >"$folder/plan.toml"
-script
+for bridges in 4 8 32; do
+    plan "$bridges" >"$folder/$bridges.toml"
+    script "$bridges" >"$folder/$bridges.steps"
+    measure "step, $bridges bridges" "$folder/$bridges.steps" "$program" step "$folder/$bridges.toml"
+    grep '^forest' "$folder/step, $bridges bridges.out"
+done
 frames
-measure step "$folder/steps" "$program" step "$folder/plan.toml"
-tail -n 8 "$folder/step.out"
 measure flat "$folder/frames" "$program" flat 3

@@ -1,7 +1,8 @@
 #!/usr/bin/env bash
 # Measures how many seconds `survive` takes. The metro ring of six bridges with two more (examples/access.toml): each link,
 # bridge and two links. 32 bridges with 64 links: each link, and each two links too, with one service that has a port at each
-# bridge, and with the most services and ports that a plan may have, 64 and 128.
+# bridge, and with the most services and ports that a plan may have, 64 and 128. Then the seconds of processor time for each two
+# links of a ring of 24 bridges.
 #
 #     bench/survive.sh [PROGRAM]     the program is ./pbnet, or PROGRAM
 set -eu
@@ -34,6 +35,18 @@ plan() {
     }'
 }
 
+# Prints a ring of 24 bridges with RSTP and a customer port at each.
+ring() {
+    awk 'BEGIN {
+        print "[network]\nspanning = \"rstp\"\n[[service]]\nname = \"S1\"\nvid = 1"
+        for (b = 1; b <= 24; b++) {
+            printf "[[bridge]]\nname = \"B%d\"\naddress = \"02-00-00-00-00-%02x\"\n", b, b
+            printf "[[link]]\nname = \"ring%d\"\na = \"B%d\"\na_port = 1\nb = \"B%d\"\nb_port = 2\n", b, b, b % 24 + 1
+            printf "[[port]]\nname = \"C%d\"\nbridge = \"B%d\"\nport = 3\nservice = \"S1\"\n", b, b
+        }
+    }'
+}
+
 # Runs `survive` $2 times, and prints the best time and the last line of the report.
 measure() {
     local name=$1 runs=$2 best='' seconds
@@ -54,3 +67,8 @@ measure "32 bridges, 64 links" 5 "$folder/one.toml"
 measure "32 bridges, 64 links, 64 services, 128 ports" 5 "$folder/all.toml"
 measure "32 bridges, 64 links, each two links too" 1 "$folder/one.toml" --pairs
 measure "32 bridges, 64 links, 64 services, 128 ports, each two links too" 1 "$folder/all.toml" --pairs
+ring >"$folder/ring.toml"
+TIMEFORMAT='%U %S'
+{ time "$program" survive "$folder/ring.toml" --pairs >"$folder/report" || [ "$?" = 4 ]; } 2>&1 \
+    | awk '{ printf "ring of 24 bridges, each two links too: %.2f s of processor time", $1 + $2 }'
+printf ': %s\n' "$(tail -n 1 "$folder/report")"

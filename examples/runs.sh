@@ -574,6 +574,26 @@ same out/listener.report examples/sockets.report
 same out/caller examples/peer.expected
 missing out/west.sock
 
+# Frames in VXLAN and frames alone. A datagram of another network is dropped and reported.
+begin "run tunnel.toml"
+peer out/tunnel python3 examples/tunnel.py
+runs out/tunnel.report run --seconds 2 examples/tunnel.toml
+wait
+ended 0
+same out/tunnel.report examples/tunnel.report
+same out/tunnel examples/peer.expected
+says out/errors "port west: 1 datagrams dropped: other-network"
+
+# Other hosts reach no port, unless the network is allowed.
+begin "run without --allow-network"
+sed 's/127.0.0.1:47893/0.0.0.0:47893/' examples/tunnel.toml >out/exposed.toml
+runs out/exposed.report run --seconds 1 out/exposed.toml
+ended 3
+says out/exposed.report "fault: path"
+says out/errors "error: port east: bind 0.0.0.0:47893: not a loopback address: --allow-network allows it"
+runs out/exposed.report run --seconds 1 --allow-network out/exposed.toml
+ended 0
+
 # The peer takes nothing before the run is over. With --linger it gets all frames, and without it the loss is reported.
 slow() {
     rm -f out/slow.sock

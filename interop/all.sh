@@ -3,13 +3,13 @@
 # is 0 if each row of each table is alike or a listed difference.
 #
 #     interop/all.sh [PART..]     all parts, or these: differences survive diff balance eager comeback pauses view wireshark
-#                                 openvswitch rings vde speed linux
+#                                 openvswitch rings vde speed linux hosts attach
 #
 # The program is ./pbnet, or that of the variable PBNET. The gate does not run this script.
 set -eu
 cd -- "$(dirname -- "$0")/.."
 
-all=(differences survive diff balance eager comeback pauses view wireshark openvswitch rings vde speed linux)
+all=(differences survive diff balance eager comeback pauses view wireshark openvswitch rings vde speed linux hosts attach)
 parts=("$@")
 [ "${#parts[@]}" -gt 0 ] || parts=("${all[@]}")
 status=0
@@ -35,6 +35,11 @@ packages_of() {
         openvswitch | rings) echo openvswitch-switch openvswitch-common ;;
         vde | speed) echo vde-switch vdeplug gcc libc6-dev ;;
         linux) echo gcc libc6-dev qemu-system-x86 busybox-static iproute2 cpio ;;
+        hosts) echo iproute2 iputils-ping ethtool iperf3 tcpdump bridge-utils openvswitch-switch ;;
+        attach)
+            echo iproute2 iputils-ping ethtool tcpdump openvswitch-switch qemu-system-x86 busybox-static cpio
+            echo vde-switch vdeplug
+            ;;
     esac
 }
 

@@ -58,10 +58,27 @@ WRONG = [
     [[]],
     "abc",
     "00",
+    2,
+    3,
+    4,
+    2**24 - 1,
+    2**24,
+    "udp",
+    "none",
+    "vxlan",
+    "127.0.0.1:1",
+    "127.0.0.1:0",
+    "[::1]:1",
 ]
 NEW_KEYS = ["zz", "aa", "Name", "in", "read", "write", "path", "start", "a b", "é", "queue", "priority", "state"]
 NEW_KEYS += ["listen", "stamp", "stay", "replay", "speed", "kind", "at", "up"]
+NEW_KEYS += ["framing", "local", "remote", "encap", "vni"]
 PATHS = {"capture": ["read", "write"], "record": ["write"], "replay": ["read"], "socket": ["path"], "listen": ["listen"]}
+PATHS["udp"] = []
+V4 = ["127.0.0.1:4789", "0.0.0.0:1", "255.255.255.255:65535", "10.0.0.1:00080"]
+V6 = ["[::1]:4790", "[::]:1", "[fe80::AbCd%7]:65535", "[1:2:3:4:5:6:7::]:9", "[::ffff:1.2.3.4]:5"]
+NEAR = ["127.0.0.1:0", "127.0.0.1:65536", "127.0.0.01:1", "127.0.0.1", "[::1]:0", "[::1]", "::1:1", "[1::2::3]:1"]
+NEAR += ["[fe80::1%4294967296]:1", "[::12345]:1", "[127.0.0.1]:1", "127.0.0.1:+1", " 127.0.0.1:1", "localhost:1", ""]
 
 
 def some_table(chance, document):
@@ -157,9 +174,9 @@ def change_octets(chance, octets):
 
 
 def put_kinds(chance, document):
-    """Makes some ports captures, in both directions or in one, or sockets."""
+    """Makes some ports captures, in both directions or in one, sockets, or ports over datagrams."""
     for table in document["port"]:
-        kind = chance.choice(["memory"] * 6 + ["capture", "record", "replay", "socket", "listen"])
+        kind = chance.choice(["memory"] * 6 + ["capture", "record", "replay", "socket", "listen", "udp", "udp"])
         if kind == "memory":
             continue
         table.pop("in", None)
@@ -173,6 +190,19 @@ def put_kinds(chance, document):
             generate.sometimes(chance, 0.5, table, "stamp", lambda: chance.choice(["ticks", "time"]))
         if table["kind"] == "socket":
             generate.sometimes(chance, 0.3, table, "stay", lambda: chance.random() < 0.7)
+            generate.sometimes(chance, 0.3, table, "framing", lambda: chance.choice([2, 2, 4, 4, 4, 3]))
+        if kind == "udp":
+            put_addresses(chance, table)
+
+
+def put_addresses(chance, table):
+    """Adds the keys of a port over datagrams, sometimes with addresses of two families or with none."""
+    same = chance.choice([V4, V6])
+    table["local"] = chance.choice(same if chance.random() < 0.95 else NEAR)
+    table["remote"] = chance.choice(same if chance.random() < 0.95 else chance.choice([V4, V6, NEAR, NEAR]))
+    generate.sometimes(chance, 0.5, table, "encap", lambda: chance.choice(["vxlan", "none"]))
+    if table.get("encap") != "none":
+        table["vni"] = chance.choice([0, 5, 2**16, 2**24 - 1])
 
 
 def put_events(chance, document):

@@ -3,6 +3,7 @@
 read_plan(octets) returns a Plan, or raises Fault with the text that `check` prints after `plan: `.
 """
 
+import ipaddress
 import re
 import tomllib
 from dataclasses import dataclass, field
@@ -11,7 +12,8 @@ NAME = re.compile(r"[A-Za-z0-9_-]{1,32}\Z")
 ADDRESS = re.compile(r"[0-9A-Fa-f]{2}(-[0-9A-Fa-f]{2}){5}\Z")
 HEX = re.compile(r"([0-9A-Fa-f]{2})*\Z")
 STATES = ("discarding", "learning", "forwarding")
-KINDS = ("memory", "capture", "record", "replay", "socket")
+SOCKET = re.compile(r"(?:\[([^%\]]*)(%[0-9]+)?\]|([0-9.]+)):([0-9]+)\Z")
+KINDS = ("memory", "capture", "record", "replay", "socket", "udp")
 MOST = {"bridge": 32, "link": 64, "service": 64, "event": 128, "tap": 128, "port": 128}
 # The value if the file sets no limit.
 UNLIMITED = 2**64 - 1
@@ -74,6 +76,17 @@ def text(pattern=None):
 
 def is_station(value):
     return bool(ADDRESS.match(value)) and int(value[:2], 16) % 2 == 0
+
+
+def family_of(value):
+    """Returns 4 or 6 for a socket address with a port other than 0, and None for other texts."""
+    parts = SOCKET.match(value)
+    if not parts or not 0 < int(parts[4]) < 2**16 or int((parts[2] or "%0")[1:]) >= 2**32:
+        return None
+    try:
+        return (ipaddress.IPv4Address(parts[3]) if parts[3] else ipaddress.IPv6Address(parts[1])).version
+    except ValueError:
+        return None
 
 
 def items(is_item, is_list):
@@ -161,14 +174,22 @@ KEYS = {
 }
 READ = [("read", text(), NONE), ("replay", word(("times",)), None), ("speed", number(1, 1000), None)]
 WRITTEN = [("write", text(), NONE), ("stamp", word(("ticks", "time")), "ticks")]
-STAY = ("stay", (is_truth, lambda _: True), False)
+STREAM = [("stay", (is_truth, lambda _: True), False), ("framing", (is_number, lambda value: value in (2, 4)), 2)]
+SOCKET_ADDRESS = is_text, lambda value: family_of(value) is not None
+BARE = [
+    ("local", SOCKET_ADDRESS, NONE),
+    ("remote", SOCKET_ADDRESS, NONE),
+    ("encap", word(("vxlan", "none")), "vxlan"),
+]
 OF_KIND = {
     "memory": [("in", items(is_text, are_frames), [])],
     "capture": [*READ, *WRITTEN],
     "record": WRITTEN,
     "replay": READ,
-    "socket": [("path", text(), NONE), STAY],
-    "listening": [("listen", text(), NONE), STAY],
+    "socket": [("path", text(), NONE), *STREAM],
+    "listening": [("listen", text(), NONE), *STREAM],
+    "udp": [*BARE, ("vni", number(0, 2**24 - 1), NONE)],
+    "bare": BARE,
 }
 
 
@@ -186,14 +207,22 @@ def read_key(table, place, key, kind, default):
     return table[key]
 
 
+def form_of(kind, table):
+    """Returns the kind of a customer port, or the form of it that has other keys."""
+    if kind == "socket" and "listen" in table:
+        return "listening"
+    if kind == "udp" and table.get("encap") == "none":
+        return "bare"
+    return kind
+
+
 def read_table(table, place, array):
     """Returns the values of a table's keys, if it has no unknown ones."""
     values = {}
     for key, kind, default in KEYS[array]:
         values[key] = read_key(table, place, key, kind, default)
     if array == "port":
-        is_listening = values["kind"] == "socket" and "listen" in table
-        for key, kind, default in OF_KIND["listening" if is_listening else values["kind"]]:
+        for key, kind, default in OF_KIND[form_of(values["kind"], table)]:
             values[key] = read_key(table, place, key, kind, default)
     unknown = sorted((key for key in table if key not in values), key=str.encode)
     if unknown:
@@ -332,6 +361,8 @@ def read_ports(document, plan, used, has_time):
             raise Fault(f"5 range port[{place}].speed")
         if row.get("stamp") == "time" and not has_time:
             raise Fault(f"5 range port[{place}].stamp")
+        if row["kind"] == "udp" and family_of(row["local"]) != family_of(row["remote"]):
+            raise Fault(f"5 range port[{place}].remote")
         rows.append(row)
     return rows
 

@@ -1,4 +1,4 @@
-# Completions of pbnet for bash. scripts/manual.py made them from the help of pbnet 0.14.0.
+# Completions of pbnet for bash. scripts/manual.py made them from the help of pbnet 0.15.0.
 
 # Sets `options` to the options of the command $1, and `places` to what each of its arguments can be: words, or @file.
 # Sets `repeats` if the last argument can be repeated.
@@ -22,7 +22,7 @@ _pbnet_command()
             places=(@file)
             ;;
         run)
-            options='--seconds --progress --control --settle --linger --format --strict -h --help'
+            options='--seconds --progress --control --settle --linger --allow-network --format --strict -h --help'
             places=(@file)
             ;;
         control)
@@ -43,7 +43,7 @@ _pbnet_command()
             places=('' '')
             ;;
         draw)
-            options='--service --down --format -o --output --ticks -h --help'
+            options='--service --down --lists --format -o --output --ticks -h --help'
             places=(@file)
             ;;
         trace)

@@ -1,4 +1,4 @@
-# Completions of pbnet for fish. scripts/manual.py made them from the help of pbnet 0.14.0.
+# Completions of pbnet for fish. scripts/manual.py made them from the help of pbnet 0.15.0.
 
 complete -c pbnet -f
 complete -c pbnet -n __fish_use_subcommand -s h -l help -d 'Print help'
@@ -33,6 +33,7 @@ complete -c pbnet -n '__fish_seen_subcommand_from run' -l progress -d 'Report pr
 complete -c pbnet -n '__fish_seen_subcommand_from run' -l control -r -F -d 'Create a Unix socket at PATH for the commands of `pbnet control`'
 complete -c pbnet -n '__fish_seen_subcommand_from run' -l settle -d 'Keep frames out until the bridges have converged (RSTP), for at most 200 ticks'
 complete -c pbnet -n '__fish_seen_subcommand_from run' -l linger -x -d 'Let ports write remaining frames at the end for MS milliseconds [default: 100] [range: 0-60000]'
+complete -c pbnet -n '__fish_seen_subcommand_from run' -l allow-network -d 'Let udp ports bind addresses at which other hosts reach them'
 complete -c pbnet -n '__fish_seen_subcommand_from run' -l format -x -a 'text json csv' -d 'Format of the report; csv prints its table alone [default: text]'
 complete -c pbnet -n '__fish_seen_subcommand_from run' -l strict -d 'Exit with status 4 if something was lost, or the run did not drain or converge'
 complete -c pbnet -n '__fish_seen_subcommand_from run' -s h -l help -d 'Print help'
@@ -67,6 +68,7 @@ complete -c pbnet -n '__fish_seen_subcommand_from diff' -l ticks -x -d 'Wait at 
 complete -c pbnet -n '__fish_seen_subcommand_from diff' -s h -l help -d 'Print help'
 complete -c pbnet -n '__fish_seen_subcommand_from draw' -l service -x -d 'Highlight this service and its tree'
 complete -c pbnet -n '__fish_seen_subcommand_from draw' -l down -x -d 'First disable a link, a bridge with all of its links, or one port BRIDGE:PORT; may be repeated'
+complete -c pbnet -n '__fish_seen_subcommand_from draw' -l lists -d 'Show the services of each link that does not carry all'
 complete -c pbnet -n '__fish_seen_subcommand_from draw' -l format -x -a 'svg dot' -d 'Format of the picture; dot is a graph for Graphviz [default: svg]'
 complete -c pbnet -n '__fish_seen_subcommand_from draw' -s o -l output -r -F -d 'Write the picture to this file [default: standard output]'
 complete -c pbnet -n '__fish_seen_subcommand_from draw' -l ticks -x -d 'Wait at most N ticks for convergence [default: 200] [range: 1-1000000]'

@@ -86,6 +86,8 @@ class Room:
 
     def __init__(self, base, name):
         self.path, self.is_kept, self.started = base / name, False, []
+        # The files that it begins with, and the outputs of a command that nobody attacks.
+        self.own, self.there = {}, None
 
     def __enter__(self):
         self.path.mkdir()
@@ -99,6 +101,11 @@ class Room:
     def names(self):
         """Returns the names and sizes of all files."""
         return {str(it.relative_to(self.path)): it.lstat().st_size for it in self.path.rglob("*") if not it.is_dir()}
+
+    def clear(self):
+        """Removes all files but those that it begins with."""
+        for name in set(self.names()) - set(self.own):
+            (self.path / name).unlink()
 
     def run(self, *words, given=b"", seconds=LIMIT, **how):
         """Runs a command to its end, with these octets as standard input."""

@@ -1,6 +1,8 @@
 """mutated captures: what leaves a run is what entered its service, and faults are named"""
 import re
+import socket
 import struct
+import threading
 
 import captures
 
@@ -116,6 +118,42 @@ def from_pipe(part):
             part.judge("captures, by a pipe", why, room, ended)
 
 
+def from_inside(part):
+    """Gives one capture by standard input that is a file from a later octet on, or a socket."""
+    for number in range(part.times(100)):
+        chance = part.chance("inside", number)
+        octets, before = given(chance), chance.randbytes(chance.choice([1, 24, 4096, 70_000]))
+        with part.room("inside", number) as room:
+            room.write("plan.toml", plan().replace('"C1.in"', '"-"'))
+            room.write("given", octets if number % 2 else before + octets)
+            other = frames.reads(room.write("C2.in", one(chance)).read_bytes())
+            found, fault = frames.reads(octets)
+            if number % 2:
+                here, there = socket.socketpair()
+                sender = threading.Thread(target=send, args=(there, octets), daemon=True)
+                sender.start()
+                ended = room.run(PROGRAM, "run", "plan.toml", stdin=here)
+                here.close()
+                sender.join(20)
+                there.close()
+            else:
+                with open(room.path / "given", "rb") as file:
+                    file.seek(len(before))
+                    ended = room.run(PROGRAM, "run", "plan.toml", stdin=file)
+            why = misfit(ended) or wrong_faults(ended, {"C1": fault, "C2": other[1]})
+            why = why or wrong_outputs(room, {"red": found, "blue": other[0]}, ended)
+            part.judge("captures, by a socket" if number % 2 else "captures, from a later octet", why, room, ended)
+
+
+def send(stream, octets):
+    try:
+        stream.sendall(octets)
+        stream.shutdown(socket.SHUT_WR)
+    except OSError:
+        pass
+
+
 def attack(part):
     mutated(part)
+    from_inside(part)
     from_pipe(part)

@@ -43,20 +43,22 @@ def reads(octets):
     return frames, None if at == len(octets) else 4
 
 
-def stream_of(frames):
-    """Returns the octets of a stream of frames, each after its length."""
-    return b"".join(len(it).to_bytes(2, "big") + it for it in frames)
+def stream_of(frames, size=2):
+    """Returns the octets of a stream of frames, each after its length in so many octets."""
+    return b"".join(len(it).to_bytes(size, "big") + it for it in frames)
 
 
-def streams(octets):
-    """Returns the frames of a stream, and the number of its fault, or None."""
+def streams(octets, size=2):
+    """Returns the frames of a stream, and the number of its fault, or None. A length of more than 65,535 is one."""
     frames, at = [], 0
-    while at + 2 <= len(octets):
-        end = at + 2 + int.from_bytes(octets[at : at + 2], "big")
-        if end > len(octets):
+    while at + size <= len(octets):
+        length = int.from_bytes(octets[at : at + size], "big")
+        if length > 65_535:
+            return frames, 5
+        if at + size + length > len(octets):
             return frames, 4
-        frames.append(octets[at + 2 : end])
-        at = end
+        frames.append(octets[at + size : at + size + length])
+        at += size + length
     return frames, None if at == len(octets) else 4
 
 

@@ -18,13 +18,14 @@ TWO = '[[service]]\nname = "s1"\nvid = 1\n' + "".join(
 LINK = '[[link]]\nname = "L1"\na = "B1"\na_port = 1\nb = "B2"\nb_port = 1\n'
 
 
-def line(count):
-    """Returns the plan of a line of bridges with the root at its end."""
+def line(count, lost=""):
+    """Returns the plan of a line of bridges with the root at its end. With a list of lost frames no tick is left out."""
     text = '[network]\nspanning = "rstp"\nprompt = true\nqueues = "class"\ntick_ms = 10\n'
     for it in range(1, count + 1):
         text += f'[[bridge]]\nname = "B{it}"\naddress = "02-00-00-00-00-{it:02x}"\n'
     for it in range(1, count):
         text += f'[[link]]\nname = "L{it}"\na = "B{it}"\na_port = 1\nb = "B{it + 1}"\nb_port = 2\n'
+        text += lost if it == 1 else ""
     return text.encode()
 
 
@@ -35,21 +36,27 @@ def services(octets):
 
 
 def cases(share):
-    """Returns the commands by name, each with its plan, its standard input and its weakness."""
-    size = max(1, round(64 * share))
-    script = b"tick B1\n" * round(1_000_000 * share)
-    return {
-        f"a_services of {5 * share:g} MB": (
-            ["check"], services(round(5_000_000 * share)), b"", "long lists of services"),
-        f"tree --ticks {round(100_000 * share)}, a line of 32": (
-            ["tree", "--ticks", str(round(100_000 * share))], line(32), b"", "trees that do not converge"),
+    """Returns the commands by name, each with its plan, its standard input, and its weakness or its fault."""
+    size, most, script = max(1, round(64 * share)), round(1_000_000 * share), b"tick B1\n" * round(1_000_000 * share)
+    found = {
+        f"a_services of {5 * share:g} MB": (["check"], services(round(5_000_000 * share)), b"", None),
         f"a comment of {size} MB": (["check"], BRIDGE + b"#" * (size * 1024 * 1024 - 200), b"", None),
+        "a file of 64 MB and an octet": (
+            ["check"], BRIDGE + b"#" * (64 * 1024 * 1024 - len(BRIDGE) + 1), b"", "fault: read"),
+        "a file of 64 MB": (["check"], BRIDGE + b"#" * (64 * 1024 * 1024 - len(BRIDGE)), b"", None),
         "survive --pairs, a ring of 16": (["survive", "--pairs"], ring(16), b"", None),
-        f"step, {round(1_000_000 * share)} ticks": (["step"], ring(8), script, None),
+        f"step, {most} ticks": (["step"], ring(8), script, None),
         f"check --all, {round(100_000 * share)} unknown keys": (
             ["check", "--all"], BRIDGE + b"".join(b"k%d = 1\n" % it for it in range(round(100_000 * share))), b"",
             "many errors"),
     }
+    for words in (["tree"], ["draw"], ["check", "--settle"], ["survive"]):
+        found[f"{' '.join(words)} --ticks {most}, a line of 32"] = ([*words, "--ticks", str(most)], line(32), b"", None)
+    late = max(100, round(1500 * share))
+    for words in (["tree"], ["draw"], ["check", "--settle"]):
+        found[f"{' '.join(words)}, all of {late} ticks"] = (
+            [*words, "--ticks", str(late)], line(32, "lost_ab = [1000000000]\n"), b"", None)
+    return found
 
 
 def measure(room, words, given):
@@ -80,8 +87,10 @@ def attack(part):
         with part.room("growth") as room:
             room.write("plan.toml", plan)
             status, seconds, megabytes = measure(room, words, given)
-            why = None
-            if status in (None, 3) or seconds > MOST_SECONDS or megabytes > MOST_MEGABYTES:
+            why, is_read = None, weakness == "fault: read"
+            if is_read and (status, room.read("run.out")) != (3, b"fault: read\n"):
+                why = f"exit status {status}"
+            elif status is None or (status == 3 and not is_read) or seconds > MOST_SECONDS or megabytes > MOST_MEGABYTES:
                 why = f"{seconds:.0f} s, {megabytes:.0f} MB"
             elif status not in range(5):
                 why, weakness = f"exit status {status}", None

@@ -1,6 +1,10 @@
 """few descriptors, little address space, small files and a full disk"""
+import functools
 import re
+import socket
+import struct
 import subprocess
+import time
 
 from hostile_parts import frames, memory
 from hostile_parts.attack import PROGRAM, crash, misfit
@@ -28,8 +32,13 @@ def ring(count):
     return subprocess.run([PROGRAM, "init", "--ring", str(count)], stdout=subprocess.PIPE, check=True).stdout
 
 
+@functools.cache
 def capture(count=400, size=300):
-    return frames.captures.pcap([frames.captures.frame(size + it % 500) for it in range(count)])
+    """Returns the octets of a capture. (They are joined once: `pcap` copies all octets at each frame.)"""
+    made = [frames.captures.frame(size + it % 500) for it in range(min(count, 500))]
+    rows = (made[it % 500] for it in range(count))
+    records = (struct.pack("<IIII", it, 0, len(row), len(row)) + row for it, row in enumerate(rows))
+    return frames.captures.pcap([]) + b"".join(records)
 
 
 def is_not_loaded(ended):
@@ -104,6 +113,9 @@ def cut_captures(room, ended, names, folder="."):
         if left[0] != wanted[: len(left[0])]:
             return f"{name} has other frames"
         reported = missing.get(f"R{number}", 0)
+        reason = rf"error: port R{number}: write \S+: (File too large|No space left)"
+        if reported and not re.search(reason, ended.complaints()):
+            return f"{name}: standard error does not have the system's reason"
         if len(left[0]) + reported != len(wanted):
             return f"{name}: {len(left[0])} of {len(wanted)} frames, and {reported} reported missing"
     lost = any(missing.values())
@@ -123,6 +135,72 @@ def sizes(part):
             why = crash(ended) or cut_captures(room, ended, ["R2.out", "R3.out"])
             kind = "limits, file size, signal ignored" if is_ignored else "limits, file size"
             part.judge(kind, why, room, ended, "file size" if ended.status == -25 else None)
+
+
+def headers(part):
+    """Limits files so that a capture without frames has no header: a strict run has status 4."""
+    for count in (0, 1):
+        with part.room("headers") as room:
+            room.write("plan.toml", replay(["R2.out", "R3.out"]))
+            room.write("in", capture(count))
+            ended = room.run("sh", "-c", IGNORING, PROGRAM, "-f", "0", "run", "--strict", "plan.toml")
+            is_named = "error: port R2: write R2.out: File too large" in ended.complaints()
+            why = crash(ended) or (None if ended.status == 4 and is_named else f"exit status {ended.status}")
+            part.judge("limits, no header of a capture", why, room, ended)
+
+
+def accepting(part):
+    """Has a client take the last descriptor while a peer comes to a port: once it leaves, the port has its peer."""
+    for most in range(8, 40):
+        with part.room("accepting", most) as room:
+            text = frames.BRIDGES + frames.SERVICES + frames.port("C", "B1", 2, "red", f'in = ["{"ff" * 20}"]')
+            room.write("plan.toml", text + frames.port("L", "B1", 1, "red", 'kind = "socket"\nlisten = "l.sock"'))
+            run = room.start("sh", "-c", LIMITED, PROGRAM, "-n", str(most), "run", "--control", "control", "plan.toml")
+            if not wait_open(room, run):
+                continue
+            why, is_short = wrong_accept(room)
+            run.kill()
+            ended = room.end(run)
+            if is_short or why:
+                part.judge("limits, no descriptor for a peer", why, room, ended)
+
+
+def wait_open(room, run):
+    """Waits until a run listens for its peer. Returns whether it does."""
+    while run.poll() is None and not (room.path / "l.sock").exists():
+        time.sleep(0.005)
+    return run.poll() is None
+
+
+def wrong_accept(room):
+    """Returns what is wrong with a peer that comes beside a client, and whether the descriptors did not suffice."""
+    client, peer = (socket.socket(socket.AF_UNIX, socket.SOCK_STREAM) for _ in range(2))
+    with client, peer:
+        client.settimeout(5)
+        peer.settimeout(5)
+        client.connect(str(room.path / "control"))
+        client.sendall(b"counts\n")
+        try:
+            client.recv(4096)
+        except OSError:
+            return None, False
+        peer.connect(str(room.path / "l.sock"))
+        peer.settimeout(0.5)
+        try:
+            if peer.recv(64) == b"\0\x14" + b"\xff" * 20:
+                return None, False
+        except TimeoutError:
+            pass
+        is_short = b"port L: cannot accept a peer: no descriptor" in room.read("run.err")
+        client.close()
+        peer.settimeout(10)
+        try:
+            came = peer.recv(64)
+        except OSError:
+            came = b""
+    if came != b"\0\x14" + b"\xff" * 20:
+        return "the peer got no frame after a descriptor was free", is_short
+    return None if is_short else "standard error does not say that no descriptor is free", is_short
 
 
 def full(part):
@@ -161,6 +239,8 @@ def full_device(part):
 def attack(part):
     spaces(part)
     descriptors(part)
+    accepting(part)
     sizes(part)
+    headers(part)
     full(part)
     full_device(part)

@@ -3,6 +3,7 @@ import fcntl
 import itertools
 import os
 import re
+import shutil
 import socket
 import subprocess
 import threading
@@ -11,9 +12,10 @@ import time
 import common
 
 from hostile_parts import frames, memory
-from hostile_parts.attack import PROGRAM, crash
+from hostile_parts.attack import PLAIN, PROGRAM, crash
 from hostile_parts.control import ask
-from hostile_parts.limits import capture, replay, ring
+from hostile_parts.limits import OLD, capture, replay, ring
+from hostile_parts.signals import launcher_of
 
 CLOSED = ["<&-", ">&-", "2>&-"]
 # Seconds within which `--seconds 2` ends, and `stop`. One that is late is tried once more: the machine may be busy.
@@ -139,17 +141,22 @@ def endless(more):
 RECORD = frames.port("P", "B2", 5, "red", 'kind = "record"\nwrite = "R2.out"')
 
 
-def late(room, words, how, is_stop, prepare):
-    """Runs a plan until it ends by --seconds or by `stop`. Returns how long the end took, or None if none came."""
+def late(room, program, words, how, end, prepare):
+    """Runs a plan until it ends by --seconds, by `stop` or by a signal of the launcher. Returns how long the end took, or
+    None if none came."""
     with prepare(room):
         begun = time.monotonic()
-        more = [] if is_stop else ["--seconds", "2"]
-        process = room.start(PROGRAM, *words, *more, "--control", "control", "plan.toml", **how)
-        if is_stop:
+        more = ["--seconds", "2"] if end == "--seconds 2" else []
+        env = {key: value for key, value in PLAIN.items() if key != "PBNET_PLAIN"}
+        process = room.start(program, *words, *more, "--control", "control", "plan.toml", env=env, **how)
+        if not more:
             common.wait_for(room.path / "control")
             time.sleep(1.5)
             begun = time.monotonic()
+        if end == "stop":
             threading.Thread(target=ask, args=(room.path / "control", b"stop\n"), daemon=True).start()
+        if end == "SIGTERM":
+            process.terminate()
         try:
             process.wait(GIVEN_UP)
             return time.monotonic() - begun
@@ -166,6 +173,13 @@ class Reader:
 
     def __enter__(self):
         return self
+
+    def take(self, count):
+        """Takes some octets, if there are any."""
+        try:
+            os.read(self.file, count)
+        except BlockingIOError:
+            pass
 
     def __exit__(self, *_):
         if self.file is not None:
@@ -187,23 +201,39 @@ class Stuck:
             os.close(end)
 
 
-def timely(part, kind, weakness, words, tables, prepare):
-    """Has runs end by --seconds and by `stop`."""
-    for is_stop in (False, True):
-        most, took = (AFTER_STOP if is_stop else AFTER_TWO), None
+def timely(part, kind, launcher, words, tables, prepare):
+    """Has runs end by --seconds, by `stop` and by a signal."""
+    for end, program in (("--seconds 2", PROGRAM), ("stop", PROGRAM), ("SIGTERM", launcher)):
+        most, took = (AFTER_TWO if end == "--seconds 2" else AFTER_STOP), None
         for _ in range(2):
             with part.room("timely") as room:
                 room.write("plan.toml", endless(tables))
                 room.write("in", capture(5000))
                 how = {}
-                took = late(room, words, how, is_stop, lambda room: prepare(room, how))
+                took = late(room, program, words, how, end, lambda room: prepare(room, how))
             if took is not None and took <= most:
                 break
-        end = "stop" if is_stop else "--seconds 2"
         is_late = took is None or took > most
         why = f"{end}: " + (f"no end in {GIVEN_UP} s" if took is None else f"{took:.1f} s") if is_late else None
-        part.judge(kind, why, weakness=weakness)
+        part.judge(kind, why)
         part.note(kind, why or "")
+
+
+def no_null(part):
+    """Closes descriptors where there is no null device: nothing is opened, or it was not needed."""
+    if subprocess.run(["unshare", "--mount", "true"], check=False, stderr=subprocess.DEVNULL).returncode:
+        part.note("outputs, no null device", "skipped: no right to mount")
+        return
+    for which in (["<&-"], [">&-"], ["2>&-"], CLOSED):
+        with part.room("null") as room:
+            room.write("plan.toml", replay(["R2.out", "R3.out"]))
+            room.write("in", capture(30))
+            room.write("R2.out", OLD)
+            words = f'mount -t tmpfs none /dev && exec "$0" run --control control --seconds 5 plan.toml {" ".join(which)}'
+            ended = room.run("unshare", "--mount", "sh", "-c", words, PROGRAM)
+            is_kept = room.read("R2.out") == OLD and not (room.path / "R3.out").exists()
+            why = crash(ended) or (None if ended.status == 3 and is_kept else f"exit status {ended.status}")
+            part.judge("outputs, no null device", why, room, ended)
 
 
 LATE = {
@@ -261,10 +291,42 @@ def reads(part):
                 part.judge(f"outputs, {reader} of {writer}", why, room, ended)
 
 
+IN_TRANSIT = re.compile(rb"frames in transit: (\d+)\n")
+COUNTS = re.compile(r"port (\w+) entered (\d+) left (\d+) filtered 0")
+
+
+def in_transit(part):
+    """Stops runs whose only output takes nothing, or some octets: what entered has left or is reported in transit."""
+    for number in range(part.times(12)):
+        chance = part.chance("transit", number)
+        with part.room("transit", number) as room:
+            room.write("plan.toml", "[network]\nlossless = true\n" + replay(["R2.out"]).split("\n", 2)[2])
+            room.write("in", capture(5000))
+            with Reader(room, True) as reader:
+                run = room.start(PROGRAM, "run", "--strict", "--linger", "0", "--control", "control", "plan.toml")
+                common.wait_for(room.path / "control")
+                for _ in range(chance.randrange(4)):
+                    time.sleep(0.1)
+                    reader.take(chance.choice([1, 1000, 60_000]))
+                time.sleep(chance.random() / 2)
+                answer = ask(room.path / "control", b"stop\n")
+                ended = room.end(run)
+            counts = {found[1]: found for found in map(COUNTS.fullmatch, ended.lines()) if found}
+            moving = int((IN_TRANSIT.findall(ended.err) or [0])[0])
+            entered, left = int(counts["C1"][2]), int(counts["R2"][3])
+            why = crash(ended, 60) or (None if answer == b"ok\n" and ended.status == 4 else f"{answer!r}, {ended.status}")
+            why = why or (None if entered == left + moving else f"{entered} entered, {left} left, {moving} in transit")
+            part.judge("outputs, in transit at the end", why, room, ended)
+
+
 def attack(part):
+    in_transit(part)
     closed_runs(part)
     closed(part)
     closed_pipes(part)
+    no_null(part)
     reads(part)
+    launcher = launcher_of(part)
     for kind, (words, tables, prepare) in LATE.items():
-        timely(part, f"outputs, {kind}", kind, words, tables, prepare)
+        timely(part, f"outputs, {kind}", launcher, words, tables, prepare)
+    shutil.rmtree(part.base / "installed")

@@ -11,6 +11,8 @@ from hostile_parts.attack import PROGRAM, misfit
 from hostile_parts.control import Load, ask
 
 EVIL = ["evil1", "evil2", "evil3"]
+# The hosts whose lengths have four octets.
+FOUR = ["evil2", "evil3"]
 SECONDS = 2.5
 
 
@@ -20,6 +22,7 @@ def plan():
     for number, (name, service) in enumerate((("near", "red"), ("far", "red"), ("evil1", "red"), ("evil2", "blue"),
                                               ("evil3", "blue")), 1):
         stay = "stay = true" if name in EVIL else ""
+        stay += "\nframing = 4" if name in FOUR else ""
         text += frames.port(name, "B1", number, service, f'kind = "socket"\nlisten = "{name}.sock"\n{stay}')
     return text
 
@@ -72,6 +75,17 @@ def come_and_go(stream, chance):
         again.close()
 
 
+def huge(stream, chance):
+    """Announces more octets than a frame has, or half a length, and comes again with each."""
+    path = stream.getpeername()
+    stream.close()
+    for octets in (b"\xff" * 4, b"\0\1\0\0", b"\x7f\xff\xff\xff", b"\0\0\1", b"\0\1", b"\0\0\xff\xff" + bytes(65_535)):
+        for more in (b"", chance.randbytes(3000)):
+            again = connect(path)
+            again.sendall(octets + more)
+            again.close()
+
+
 def connect(path):
     stream = socket.socket(socket.AF_UNIX, socket.SOCK_STREAM)
     stream.settimeout(10)
@@ -79,7 +93,7 @@ def connect(path):
     return stream
 
 
-WAYS = [trickle, shut_sending, shut_receiving, reset, zeros, never_read, noise, come_and_go]
+WAYS = [trickle, shut_sending, shut_receiving, reset, zeros, never_read, noise, come_and_go, huge]
 
 
 def behave(way, path, chance):
@@ -121,5 +135,5 @@ def try_peers(part, number):
 
 
 def attack(part):
-    sent = sum(try_peers(part, number) for number in range(part.times(40)))
+    sent = sum(try_peers(part, number) for number in range(part.times(36)))
     part.note(f"peers, {WAYS[0].__name__}", f"{sent} frames beside them")

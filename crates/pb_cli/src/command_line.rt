@@ -19,7 +19,7 @@ use clap::{ArgMatches, Command, Error};
 use std::alloc::{AllocError, Global};
 
 /// The version of the program.
-pub const VERSION: &str = "0.14.0";
+pub const VERSION: &str = "0.15.0";
 
 /// A parsed command line: the command with its options.
 #[derive(PartialEq, Eq, Debug, Drop)]

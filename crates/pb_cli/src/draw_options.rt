@@ -14,6 +14,9 @@ pub(crate) const DRAW: &str = "Draw the network as SVG or Graphviz";
 /// The help of `--service`.
 const SERVICE: &str = "Highlight this service and its tree";
 
+/// The help of `--lists`.
+const LISTS: &str = "Show the services of each link that does not carry all";
+
 /// The help of `--output`.
 const OUTPUT: &str = "Write the picture to this file [default: standard output]";
 
@@ -30,6 +33,13 @@ pub(crate) const ARGUMENTS: &[Argument] = &[
         excludes: &[],
     },
     DOWNS,
+    Argument {
+        name: "lists",
+        value: "",
+        help: LISTS,
+        takes: Takes::Nothing,
+        excludes: &[],
+    },
     Argument {
         name: "format",
         value: "FORM",
@@ -66,6 +76,8 @@ pub struct DrawOptions {
     pub service: Option<String>,
     /// What is disabled first: names of links and bridges, and ports as BRIDGE:PORT.
     pub downs: Vec<String>,
+    /// Whether links show their lists of services.
+    pub lists: bool,
     /// The form in which the picture is written.
     pub format: PictureFormat,
     /// The most ticks of each bridge, 1 to 1,000,000.
@@ -102,6 +114,7 @@ pub(crate) fn draw_options(
         path: String::from_str(alloc, path)?,
         service,
         downs,
+        lists: given.get_flag("lists"),
         format: format_of(given),
         ticks: ticks_of(given),
         output,

@@ -48,7 +48,7 @@ const PLAN_KEYS: &str =
   service                 Its service, by name
   pcp                     Priority of frames without a priority tag [default: 0] [range: 0-7]
   queue                   Frames that wait for the customer's device [default: 64] [range: 1-4096]
-  kind                    "memory", "capture", "record", "replay" or "socket" [default: "memory"]
+  kind                    "memory", "capture", "record", "replay", "socket" or "udp" [default: "memory"]
   in                      "memory": the frames that enter, hexadecimal texts [default: []]
   read                    "capture", "replay": the path of the capture to read
   replay                  "capture", "replay": "times": frames enter by their times; needs tick_ms [default: at once]
@@ -58,6 +58,10 @@ const PLAN_KEYS: &str =
   path                    "socket": the path of the socket to which the port connects
   listen                  "socket", in place of path: the path of the socket that the port creates
   stay                    "socket": true: another peer may follow one that has left [default: false]
+  framing                 "socket": the octets of the length before each frame, 2 or 4 [default: 2]
+  local, remote           "udp": the address and port here, and the peer's: "127.0.0.1:4790", "[::1]:4790"
+  encap                   "udp": "vxlan": a VXLAN header precedes each frame; "none" [default: "vxlan"]
+  vni                     "udp" with "vxlan": the network in this header [range: 0-16777215]
 
 [[event]], at most 128: run enables or disables a port to another bridge
   at                      Ticks of the bridge before the event [range: 0-4294967295]

@@ -38,6 +38,9 @@ const SETTLE: &str =
 const LINGER_HELP: &str =
     "Let ports write remaining frames at the end for MS milliseconds [default: 100] [range: 0-60000]";
 
+/// The help of `--allow-network`.
+const NETWORK: &str = "Let udp ports bind addresses at which other hosts reach them";
+
 /// The help of `--strict`.
 const STRICT: &str =
     "Exit with status 4 if something was lost, or the run did not drain or converge";
@@ -79,6 +82,13 @@ pub(crate) const ARGUMENTS: &[Argument] = &[
         takes: Takes::Number(0, 60_000),
         excludes: &[],
     },
+    Argument {
+        name: "allow-network",
+        value: "",
+        help: NETWORK,
+        takes: Takes::Nothing,
+        excludes: &[],
+    },
     AS_TABLE,
     Argument {
         name: "strict",
@@ -107,6 +117,8 @@ pub struct RunOptions {
     pub settles: bool,
     /// The milliseconds that all ports have at the end to write their remaining frames, 0 to 60,000.
     pub linger: u32,
+    /// Whether ports may bind addresses that are not loopback.
+    pub allows_network: bool,
     /// The form in which the report is printed.
     pub format: ReportFormat,
 }
@@ -155,6 +167,7 @@ pub(crate) fn run_options(
         strict: given.get_flag("strict"),
         settles: given.get_flag("settle"),
         linger: linger_of(given),
+        allows_network: given.get_flag("allow-network"),
         format: report_format_of(given),
     })
 }

@@ -1,5 +1,5 @@
 -- A scene as a graph in the language DOT.
-use Rattle.std.specs.Prelude.{ℕ, List, [], ◌++◌, ◌==◌, if◌then◌else◌, unwrap_or, flat_map, codes}
+use Rattle.std.specs.Prelude.{ℕ, Bool, true, false, List, [], ◌++◌, ◌==◌, if◌then◌else◌, unwrap_or, flat_map, codes}
 use Rattle.std.specs.Fmt.{decimal}
 use Rattle.std.specs.Option.{option_map}
 use Rattle.pb_lan.specs.Numbering.{numbered}
@@ -10,6 +10,7 @@ use Rattle.pb_lan.specs.declared.plan.LinkPlan.{LinkPlan}
 use Rattle.pb_lan.specs.declared.shape.PortState.{PortState}
 use Rattle.pb_lan.specs.declared.shape.PortState.TheVariants.{Discarding, Learning, Forwarding}
 use Rattle.pb_names.specs.Names.{service_name}
+use Rattle.pb_cmd_draw.specs.Lists.{list_lines}
 use Rattle.pb_cmd_draw.specs.Titles.{bridge_words, link_words, port_words}
 use Rattle.pb_cmd_draw.specs.Words.{losing_word, colour_of}
 use Rattle.pb_draw_layout.specs.declared.facts.Tone.{Tone}
@@ -76,21 +77,30 @@ edge_ends link =
 abbrev pub arrows_text : LinkFacts → List ℕ
 arrows_text facts = codes "arrowtail=" ++ arrow_word facts.a ++ codes ", arrowhead=" ++ arrow_word facts.b ++ codes ", " ++ active_style facts.state
 
+-- the lists of services of a link, each in a line of its own, if the graph shows them
+abbrev pub edge_lists : Plan → Bool → LinkPlan → List ℕ
+edge_lists plan false link = []
+edge_lists plan true link = list_lines (codes "\\n") [] plan link
+
+-- the name of a link and its mark, as the beginning of a label
+abbrev pub edge_name : LinkPlan → List ℕ
+edge_name link = codes "label=\"" ++ link.name ++ losing_word link
+
 -- the label of a link's edge
-abbrev pub edge_label : LinkPlan → List ℕ
-edge_label link = codes "label=\"" ++ link.name ++ losing_word link ++ codes "\", tooltip=\""
+abbrev pub edge_label : Plan → Bool → LinkPlan → List ℕ
+edge_label plan lists link = edge_name link ++ edge_lists plan lists link ++ codes "\", tooltip=\""
 
 -- the beginning of a link's edge, up to its tooltip
-abbrev pub edge_head : LinkPlan → LinkFacts → List ℕ
-edge_head link facts = edge_ends link ++ arrows_text facts ++ edge_label link
+abbrev pub edge_head : Plan → Bool → LinkPlan → LinkFacts → List ℕ
+edge_head plan lists link facts = edge_ends link ++ arrows_text facts ++ edge_label plan lists link
 
 -- the edge of a link
-abbrev pub known_edge : Plan → LinkPlan → LinkFacts → List ℕ
-known_edge plan link facts = edge_head link facts ++ link_words plan link facts ++ tone_style facts.tone
+abbrev pub known_edge : Plan → Bool → LinkPlan → LinkFacts → List ℕ
+known_edge plan lists link facts = edge_head plan lists link facts ++ link_words plan link facts ++ tone_style facts.tone
 
 -- the edge of the link with the mark's number
-abbrev pub link_edge : Plan → LinkMark → List ℕ
-link_edge plan mark = unwrap_or (option_map (λ link. known_edge plan link mark.facts) (numbered plan.links mark.facts.number)) []
+abbrev pub link_edge : Plan → Bool → LinkMark → List ℕ
+link_edge plan lists mark = unwrap_or (option_map (λ link. known_edge plan lists link mark.facts) (numbered plan.links mark.facts.number)) []
 
 -- the beginning of a customer port's node
 abbrev pub leaf_head : List ℕ → List ℕ → PortFacts → List ℕ
@@ -116,10 +126,10 @@ abbrev pub port_node : Plan → PortMark → List ℕ
 port_node plan mark = unwrap_or (option_map (λ c. known_leaf plan c mark.facts) (numbered plan.customers mark.facts.number)) []
 
 -- the nodes and edges of all parts, in order
-abbrev pub parts_text : Plan → Scene → List ℕ
-parts_text plan scene =
-    flat_map (bridge_node plan) scene.bridges ++ flat_map (link_edge plan) scene.links ++ flat_map (port_node plan) scene.ports
+abbrev pub parts_text : Plan → Bool → Scene → List ℕ
+parts_text plan lists scene =
+    flat_map (bridge_node plan) scene.bridges ++ flat_map (link_edge plan lists) scene.links ++ flat_map (port_node plan) scene.ports
 
--- the graph
-abbrev pub dot_text : Plan → Scene → List ℕ
-dot_text plan scene = codes "graph network {\n" ++ parts_text plan scene ++ codes "}\n"
+-- the graph, with the lists of services at links or without
+abbrev pub dot_text : Plan → Bool → Scene → List ℕ
+dot_text plan lists scene = codes "graph network {\n" ++ parts_text plan lists scene ++ codes "}\n"

@@ -38,17 +38,17 @@ abbrev pub chosen_of : Plan → Option (Bor (List ℕ)) → Option ℕ
 chosen_of plan None = None
 chosen_of plan (Some name) = Some (service_named plan name.now)
 
--- the picture of a scene in a format
-abbrev pub picture_text : Format → Plan → Scene → List ℕ
-picture_text Svg plan scene = svg_text plan scene
-picture_text Dot plan scene = dot_text plan scene
+-- the picture of a scene in a format, with the lists of services at links or without
+abbrev pub picture_text : Format → Plan → Bool → Scene → List ℕ
+picture_text Svg plan lists scene = svg_text plan lists scene
+picture_text Dot plan lists scene = dot_text plan lists scene
 
 -- the picture of each part of the network, as it is in the shape and with these failures, with this service highlighted
--- or none
-pub record IsPictureOf (plan : Plan) (shape : Shape) (chosen : Option ℕ) (failed : Failures) (format : Format) (text : List ℕ) : Type 0 where
+-- or none, and with the lists of services of links or without
+pub record IsPictureOf (plan : Plan) (shape : Shape) (chosen : Option ℕ) (failed : Failures) (lists : Bool) (format : Format) (text : List ℕ) : Type 0 where
   pub scene : Scene
   pub is_scene : IsSceneOf plan shape chosen failed scene
-  pub text_is : text ≡ picture_text format plan scene
+  pub text_is : text ≡ picture_text format plan lists scene
 
 -- each bridge ticks at most so many times, and the picture has the states at the end, which are those of a lawful record
 -- in which no allocation failed, and shows what the names disable as failed
@@ -58,7 +58,7 @@ pub record IsDrawingFrom (plan : Plan) (asked : Asked) (fallen : NetView) (rest 
   pub planned : last.plan ≡ plan
   pub lawful : IsLawfulRecord spanning_tree plan last.rec
   pub enough : HasEnoughMemory last.rec
-  pub picture : IsPictureOf plan (last_shape plan last.rec) (chosen_of plan asked.service) (failures_of plan asked.downs.now) asked.format text
+  pub picture : IsPictureOf plan (last_shape plan last.rec) (chosen_of plan asked.service) (failures_of plan asked.downs.now) asked.lists asked.format text
 
 -- what the names disable is disabled first
 pub record IsDrawing (plan : Plan) (asked : Asked) (rest : Rest) (text : List ℕ) : Type 0 where

@@ -1,5 +1,7 @@
 pub mod Words
 pub mod Titles
+pub mod Lists
+pub mod SvgLists
 pub mod SvgLinks
 pub mod SvgBoxes
 pub mod SvgKeys

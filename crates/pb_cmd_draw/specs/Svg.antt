@@ -1,5 +1,5 @@
 -- A scene as an SVG picture.
-use Rattle.std.specs.Prelude.{ℕ, List, ◌++◌, Some, None, flat_map, length, codes}
+use Rattle.std.specs.Prelude.{ℕ, Bool, List, ◌++◌, Some, None, flat_map, length, codes}
 use Rattle.std.specs.Fmt.{decimal}
 use Rattle.std.specs.declared.option.Option.{Option}
 use Rattle.pb_lan.specs.declared.plan.Plan.{Plan}
@@ -35,19 +35,23 @@ abbrev pub head_text : Scene → List ℕ
 head_text scene =
     opening_text scene.size ++ counts_text scene ++ STYLE.now ++ ground_text scene.size ++ group_text scene.chosen
 
+-- the lines of links, the boxes of bridges, and customer ports
+abbrev pub boxes_text : Plan → Scene → List ℕ
+boxes_text plan scene =
+    flat_map (link_element plan) scene.links ++ flat_map (bridge_element plan) scene.bridges ++ flat_map (port_element plan) scene.ports
+
 -- an element for each part, in order; links have two: their lines come first, and their names and ends after the boxes
-abbrev pub parts_text : Plan → Scene → List ℕ
-parts_text plan scene =
-    flat_map (link_element plan) scene.links
-    ++ flat_map (bridge_element plan) scene.bridges
-    ++ flat_map (port_element plan) scene.ports
-    ++ flat_map (ends_element plan) scene.links
+abbrev pub parts_text : Plan → Bool → Scene → List ℕ
+parts_text plan lists scene = boxes_text plan scene ++ flat_map (ends_element plan lists) scene.links
 
--- those, and the legend
-abbrev pub elements_text : Plan → Scene → List ℕ
-elements_text plan scene =
-    parts_text plan scene ++ flat_map key_element scene.keys ++ flat_map (service_element plan) scene.services
+-- the legend
+abbrev pub legend_text : Plan → Scene → List ℕ
+legend_text plan scene = flat_map key_element scene.keys ++ flat_map (service_element plan) scene.services
 
--- the picture
-abbrev pub svg_text : Plan → Scene → List ℕ
-svg_text plan scene = head_text scene ++ elements_text plan scene ++ codes "</g>\n</svg>\n"
+-- the parts and the legend
+abbrev pub elements_text : Plan → Bool → Scene → List ℕ
+elements_text plan lists scene = parts_text plan lists scene ++ legend_text plan scene
+
+-- the picture, with the lists of services at links or without
+abbrev pub svg_text : Plan → Bool → Scene → List ℕ
+svg_text plan lists scene = head_text scene ++ elements_text plan lists scene ++ codes "</g>\n</svg>\n"

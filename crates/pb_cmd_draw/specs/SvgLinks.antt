@@ -10,6 +10,7 @@ use Rattle.pb_lan.specs.declared.plan.LinkPlan.{LinkPlan}
 use Rattle.pb_lan.specs.declared.shape.PortState.{PortState}
 use Rattle.pb_lan.specs.declared.shape.PortState.TheVariants.{Discarding, Learning, Forwarding}
 use Rattle.pb_names.specs.Names.{bridge_name}
+use Rattle.pb_cmd_draw.specs.SvgLists.{link_lists}
 use Rattle.pb_cmd_draw.specs.Titles.{link_words}
 use Rattle.pb_cmd_draw.specs.Words.{tone_word, link_word, end_word, losing_word}
 use Rattle.pb_draw_layout.specs.declared.facts.LinkFacts.{LinkFacts}
@@ -110,9 +111,9 @@ plate_text route =
 abbrev pub name_text : LinkPlan → List ℕ
 name_text link = codes "<text class=\"name\" y=\"4\">" ++ link.name ++ losing_word link ++ codes "</text></g>"
 
--- the name on its plate
-abbrev pub label_text : LinkPlan → Route → List ℕ
-label_text link route = plate_text route ++ name_text link
+-- the name on its plate, with the lists of services under it or without
+abbrev pub label_text : Plan → Bool → LinkPlan → Route → List ℕ
+label_text plan lists link route = plate_text route ++ link_lists plan lists link route.lines_half ++ name_text link
 
 -- what is shown of each end of a link
 abbrev pub shown_a : LinkMark → ShownEnd
@@ -126,10 +127,10 @@ abbrev pub both_ends : Plan → LinkPlan → LinkMark → List ℕ
 both_ends plan link mark = end_text plan link.a (shown_a mark) ++ end_text plan link.b (shown_b mark)
 
 -- the ends of a link, and its name
-abbrev pub known_ends : Plan → LinkPlan → LinkMark → List ℕ
-known_ends plan link mark =
-    link_group (codes "ends") plan link mark.facts ++ both_ends plan link mark ++ label_text link mark.route ++ codes "</g>\n"
+abbrev pub known_ends : Plan → Bool → LinkPlan → LinkMark → List ℕ
+known_ends plan lists link mark =
+    link_group (codes "ends") plan link mark.facts ++ both_ends plan link mark ++ label_text plan lists link mark.route ++ codes "</g>\n"
 
 -- the ends and the name of the link with the mark's number
-abbrev pub ends_element : Plan → LinkMark → List ℕ
-ends_element plan mark = unwrap_or (option_map (λ link. known_ends plan link mark) (numbered plan.links mark.facts.number)) []
+abbrev pub ends_element : Plan → Bool → LinkMark → List ℕ
+ends_element plan lists mark = unwrap_or (option_map (λ link. known_ends plan lists link mark) (numbered plan.links mark.facts.number)) []

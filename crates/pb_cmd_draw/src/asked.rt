@@ -11,6 +11,8 @@ pub struct Asked<'a> {
     pub downs: &'a [String],
     /// The most ticks of each bridge until convergence.
     pub ticks: u32,
+    /// Whether links show their lists of services.
+    pub lists: bool,
     /// The format of the picture.
     pub format: Format,
 }

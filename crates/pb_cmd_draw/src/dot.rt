@@ -2,11 +2,13 @@
 
 ghost use Rattle.std.specs.Prelude.{◌≡◌, ◌++◌, flat_map, string_bytes, OnOk};
 ghost use Rattle.pb_cmd_draw.specs.Dot.{tone_style, active_style, arrow_word, colour_code, node_style, node_head};
-ghost use Rattle.pb_cmd_draw.specs.Dot.{known_node, bridge_node, edge_ends, arrows_text, edge_label, edge_head};
+ghost use Rattle.pb_cmd_draw.specs.Dot.{known_node, bridge_node, edge_ends, arrows_text, edge_lists, edge_name};
+ghost use Rattle.pb_cmd_draw.specs.Dot.{edge_label, edge_head};
 ghost use Rattle.pb_cmd_draw.specs.Dot.{known_edge, link_edge, leaf_edge, leaf_head, leaf_node, known_leaf, port_node};
 ghost use Rattle.pb_cmd_draw.specs.Dot.{parts_text, dot_text};
 ghost use Rattle.pb_cmd_draw.specs.Words.{colour_of};
 
+use crate::lists::{Around, put_list_lines};
 use crate::titles::{put_bridge_words, put_link_words, put_port_words};
 use crate::words::{colour_of, losing_word};
 use pb_draw_layout::{
@@ -149,46 +151,77 @@ fn put_arrows(out: &mut String, facts: LinkFacts) -> Result<(), Memory>
     Ok(())
 }
 
-/// Appends the label of a link's edge.
-fn put_edge_label(out: &mut String, link: &LinkPlan) -> Result<(), Memory>
-    ensures { OnOk result (string_bytes out.new ≡ string_bytes out.old ++ edge_label link.now) }
+/// Appends the lists of services of a link, each in a line of its own, if the graph shows them.
+fn put_edge_lists(out: &mut String, plan: &Plan, lists: bool, link: &LinkPlan) -> Result<(), Memory>
+    ensures { OnOk result (string_bytes out.new ≡ string_bytes out.old ++ edge_lists plan.now lists link.now) }
+{
+    if !lists {
+        return Ok(());
+    }
+    let around = Around {
+        before: "\\n",
+        after: "",
+    };
+    put_list_lines(out, plan, around, link)
+}
+
+/// Appends the name of a link and its mark, as the beginning of a label.
+fn put_edge_name(out: &mut String, link: &LinkPlan) -> Result<(), Memory>
+    ensures { OnOk result (string_bytes out.new ≡ string_bytes out.old ++ edge_name link.now) }
 {
     let name = link.name.as_str();
     let losing = losing_word(link);
-    write!(out, "label=\"{name}{losing}\", tooltip=\"")?;
+    write!(out, "label=\"{name}{losing}")?;
+    Ok(())
+}
+
+/// Appends the label of a link's edge.
+fn put_edge_label(out: &mut String, plan: &Plan, lists: bool, link: &LinkPlan) -> Result<(), Memory>
+    ensures { OnOk result (string_bytes out.new ≡ string_bytes out.old ++ edge_label plan.now lists link.now) }
+{
+    put_edge_name(out, link)?;
+    put_edge_lists(out, plan, lists, link)?;
+    out.push_str("\", tooltip=\"")?;
     Ok(())
 }
 
 /// Appends the beginning of a link's edge, up to its tooltip.
-fn put_edge_head(out: &mut String, link: &LinkPlan, facts: LinkFacts) -> Result<(), Memory>
-    ensures { OnOk result (string_bytes out.new ≡ string_bytes out.old ++ edge_head link.now facts) }
+fn put_edge_head(
+    out: &mut String,
+    plan: &Plan,
+    lists: bool,
+    link: &LinkPlan,
+    facts: LinkFacts,
+) -> Result<(), Memory>
+    ensures { OnOk result (string_bytes out.new ≡ string_bytes out.old ++ edge_head plan.now lists link.now facts) }
 {
     put_edge_ends(out, link)?;
     put_arrows(out, facts)?;
-    put_edge_label(out, link)
+    put_edge_label(out, plan, lists, link)
 }
 
 /// Appends the edge of a link.
 fn put_known_edge(
     out: &mut String,
     plan: &Plan,
+    lists: bool,
     link: &LinkPlan,
     facts: LinkFacts,
 ) -> Result<(), Memory>
-    ensures { OnOk result (string_bytes out.new ≡ string_bytes out.old ++ known_edge plan.now link.now facts) }
+    ensures { OnOk result (string_bytes out.new ≡ string_bytes out.old ++ known_edge plan.now lists link.now facts) }
 {
-    put_edge_head(out, link, facts)?;
+    put_edge_head(out, plan, lists, link, facts)?;
     put_link_words(out, plan, link, facts)?;
     put_tone(out, facts.tone)
 }
 
 /// Appends the edge of the link with the mark's number.
-fn put_link(out: &mut String, plan: &Plan, mark: &LinkMark) -> Result<(), Memory>
-    ensures { OnOk result (string_bytes out.new ≡ string_bytes out.old ++ link_edge plan.now mark.now) }
+fn put_link(out: &mut String, plan: &Plan, lists: bool, mark: &LinkMark) -> Result<(), Memory>
+    ensures { OnOk result (string_bytes out.new ≡ string_bytes out.old ++ link_edge plan.now lists mark.now) }
 {
     match numbered(plan.links.as_slice(), mark.facts.number as usize) {
         None => Ok(()),
-        Some(link) => put_known_edge(out, plan, link, mark.facts),
+        Some(link) => put_known_edge(out, plan, lists, link, mark.facts),
     }
 }
 
@@ -276,11 +309,12 @@ fn put_bridges(
 }
 
 /// Appends the edges of the links.
-fn put_links(out: &mut String, plan: &Plan, marks: &[LinkMark]) -> Result<(), Memory>
-    ensures { OnOk result (string_bytes out.new ≡ string_bytes out.old ++ flat_map (link_edge plan.now) marks.now) }
+fn put_links(out: &mut String, plan: &Plan, lists: bool, marks: &[LinkMark]) -> Result<(), Memory>
+    ensures { OnOk result (string_bytes out.new ≡ string_bytes out.old
+        ++ flat_map (link_edge plan.now lists) marks.now) }
 {
     for mark in marks {
-        put_link(out, plan, mark)?;
+        put_link(out, plan, lists, mark)?;
     }
     Ok(())
 }
@@ -296,11 +330,17 @@ fn put_ports(out: &mut String, plan: &Plan, marks: &[PortMark]) -> Result<(), Me
 }
 
 /// Appends the nodes and edges of all parts.
-fn put_parts(alloc: Global, out: &mut String, plan: &Plan, scene: &Scene) -> Result<(), Memory>
-    ensures { OnOk result (string_bytes out.new ≡ string_bytes out.old ++ parts_text plan.now scene.now) }
+fn put_parts(
+    alloc: Global,
+    out: &mut String,
+    plan: &Plan,
+    lists: bool,
+    scene: &Scene,
+) -> Result<(), Memory>
+    ensures { OnOk result (string_bytes out.new ≡ string_bytes out.old ++ parts_text plan.now lists scene.now) }
 {
     put_bridges(alloc, out, plan, scene.bridges.as_slice())?;
-    put_links(out, plan, scene.links.as_slice())?;
+    put_links(out, plan, lists, scene.links.as_slice())?;
     put_ports(out, plan, scene.ports.as_slice())
 }
 
@@ -308,16 +348,23 @@ fn put_parts(alloc: Global, out: &mut String, plan: &Plan, scene: &Scene) -> Res
 ///
 /// Bridges are boxes, customer ports ellipses in the colour of their service, links edges between bridges. The edge
 /// ends in a square at a Discarding port, in a circle at a Learning port. A link on standby is dashed and grey. A link
-/// or a bridge that has failed is red. The box of a root has a double line. Graphviz computes the positions itself.
+/// or a bridge that has failed is red. The box of a root has a double line. If `lists` is true, the label of a link has
+/// its lists of services, as [`put_svg`](crate::put_svg) describes. Graphviz computes the positions itself.
 ///
 /// # Errors
 ///
 /// `Memory` if an allocation failed. A part of the graph may have been appended then.
-pub fn put_dot(alloc: Global, out: &mut String, plan: &Plan, scene: &Scene) -> Result<(), Memory>
-    ensures { OnOk result (string_bytes out.new ≡ string_bytes out.old ++ dot_text plan.now scene.now) }
+pub fn put_dot(
+    alloc: Global,
+    out: &mut String,
+    plan: &Plan,
+    lists: bool,
+    scene: &Scene,
+) -> Result<(), Memory>
+    ensures { OnOk result (string_bytes out.new ≡ string_bytes out.old ++ dot_text plan.now lists scene.now) }
 {
     out.push_str("graph network {\n")?;
-    put_parts(alloc, out, plan, scene)?;
+    put_parts(alloc, out, plan, lists, scene)?;
     out.push_str("}\n")?;
     Ok(())
 }

@@ -15,9 +15,10 @@ use crate::asked::Asked;
 use crate::dot::put_dot;
 use crate::end::{DrawEnd, Format};
 use crate::failures::failures_of;
+use crate::lists::rooms;
 use crate::svg::put_svg;
 use pb_converge::{DriveFault, Rest, disables, fault_of, fresh, settle, shape_of};
-use pb_draw_layout::{Failures, scene_of};
+use pb_draw_layout::{Failures, Rooms, scene_of};
 use pb_frame::Memory;
 use pb_lan::{Plan, Record, Shape};
 use pb_messages::{CommandFault, write_whole};
@@ -38,6 +39,8 @@ struct Shown<'a> {
     chosen: Option<u8>,
     /// What has failed.
     failed: &'a Failures,
+    /// Whether links show their lists of services.
+    lists: bool,
     /// The format of the picture.
     format: Format,
 }
@@ -74,12 +77,18 @@ fn put_picture(
 ) -> Result<(), Memory>
     requires { IsSound plan.now }
     ensures { OnOk result ((text : List ℕ) × (string_bytes out.new ≡ string_bytes out.old ++ text)
-        × IsPictureOf plan.now shape.now shown.entry.chosen shown.entry.failed.now shown.entry.format text) }
+        × IsPictureOf plan.now shape.now shown.entry.chosen shown.entry.failed.now shown.entry.lists shown.entry.format
+        text) }
 {
-    let scene = scene_of(alloc, plan, shape, shown.chosen, shown.failed)?;
+    let links = rooms(alloc, plan, shown.lists)?;
+    let rooms = Rooms {
+        links: links.as_slice(),
+        ports: 0,
+    };
+    let scene = scene_of(alloc, plan, shape, shown.chosen, shown.failed, rooms)?;
     match shown.format {
-        Format::Svg => put_svg(alloc, out, plan, &scene),
-        Format::Dot => put_dot(alloc, out, plan, &scene),
+        Format::Svg => put_svg(alloc, out, plan, shown.lists, &scene),
+        Format::Dot => put_dot(alloc, out, plan, shown.lists, &scene),
     }
 }
 
@@ -95,7 +104,7 @@ fn put_last(
     ensures enough { OnOk result (HasEnoughMemory tallies.now) }
     ensures picture { OnOk result ((text : List ℕ) × (string_bytes out.new ≡ string_bytes out.old ++ text)
         × IsPictureOf plan.now (last_shape plan.now tallies.now) shown.entry.chosen shown.entry.failed.now
-        shown.entry.format text) }
+        shown.entry.lists shown.entry.format text) }
 {
     let shape = shape_of(alloc, plan, tallies)?;
     put_picture(alloc, out, plan, &shape, shown)
@@ -121,6 +130,7 @@ fn put_rested(
     let shown = Shown {
         chosen,
         failed: &failed,
+        lists: asked.lists,
         format: asked.format,
     };
     let tallies = net.tallies()?;

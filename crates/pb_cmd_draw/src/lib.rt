@@ -8,11 +8,13 @@ mod dot;
 mod draw;
 mod end;
 mod failures;
+mod lists;
 mod style;
 mod svg;
 mod svg_boxes;
 mod svg_keys;
 mod svg_links;
+mod svg_lists;
 mod titles;
 mod words;
 
@@ -23,6 +25,7 @@ pub use end::{DrawEnd, Format};
 pub use pb_converge::{DownFault, Rest};
 pub use pb_draw_layout::{
     BridgeFacts, BridgeMark, DownEnds, Failures, Key, KeyMark, Lane, LinkFacts, LinkMark,
-    LinkState, Point, PortFacts, PortMark, Route, Scene, ServiceFacts, ServiceMark, Tone, scene_of,
+    LinkState, Point, PortFacts, PortMark, Room, Rooms, Route, Scene, ServiceFacts, ServiceMark,
+    Tone, scene_of,
 };
 pub use svg::put_svg;

@@ -2,7 +2,7 @@
 
 ghost use Rattle.std.specs.Prelude.{◌≡◌, ◌++◌, flat_map, string_bytes, OnOk};
 ghost use Rattle.pb_cmd_draw.specs.Svg.{opening_text, counts_text, ground_text, group_text, head_text, parts_text};
-ghost use Rattle.pb_cmd_draw.specs.Svg.{elements_text, svg_text};
+ghost use Rattle.pb_cmd_draw.specs.Svg.{boxes_text, elements_text, legend_text, svg_text};
 ghost use Rattle.pb_cmd_draw.specs.SvgBoxes.{bridge_element, port_element, service_element};
 ghost use Rattle.pb_cmd_draw.specs.SvgKeys.{key_element};
 ghost use Rattle.pb_cmd_draw.specs.SvgLinks.{link_element, ends_element};
@@ -54,11 +54,17 @@ fn put_ports(out: &mut String, plan: &Plan, marks: &[PortMark]) -> Result<(), Me
 }
 
 /// Appends the names and the ends of the links.
-fn put_all_ends(out: &mut String, plan: &Plan, marks: &[LinkMark]) -> Result<(), Memory>
-    ensures { OnOk result (string_bytes out.new ≡ string_bytes out.old ++ flat_map (ends_element plan.now) marks.now) }
+fn put_all_ends(
+    out: &mut String,
+    plan: &Plan,
+    lists: bool,
+    marks: &[LinkMark],
+) -> Result<(), Memory>
+    ensures { OnOk result (string_bytes out.new ≡ string_bytes out.old
+        ++ flat_map (ends_element plan.now lists) marks.now) }
 {
     for mark in marks {
-        put_ends(out, plan, mark)?;
+        put_ends(out, plan, lists, mark)?;
     }
     Ok(())
 }
@@ -144,23 +150,49 @@ fn put_head(out: &mut String, scene: &Scene) -> Result<(), Memory>
     put_group(out, scene.chosen)
 }
 
-/// Appends the elements of all parts of the network.
-fn put_parts(alloc: Global, out: &mut String, plan: &Plan, scene: &Scene) -> Result<(), Memory>
-    ensures { OnOk result (string_bytes out.new ≡ string_bytes out.old ++ parts_text plan.now scene.now) }
+/// Appends the lines of links, the boxes of bridges, and customer ports.
+fn put_boxes(alloc: Global, out: &mut String, plan: &Plan, scene: &Scene) -> Result<(), Memory>
+    ensures { OnOk result (string_bytes out.new ≡ string_bytes out.old ++ boxes_text plan.now scene.now) }
 {
     put_links(out, plan, scene.links.as_slice())?;
     put_bridges(alloc, out, plan, scene.bridges.as_slice())?;
-    put_ports(out, plan, scene.ports.as_slice())?;
-    put_all_ends(out, plan, scene.links.as_slice())
+    put_ports(out, plan, scene.ports.as_slice())
+}
+
+/// Appends the elements of all parts of the network.
+fn put_parts(
+    alloc: Global,
+    out: &mut String,
+    plan: &Plan,
+    lists: bool,
+    scene: &Scene,
+) -> Result<(), Memory>
+    ensures { OnOk result (string_bytes out.new ≡ string_bytes out.old ++ parts_text plan.now lists scene.now) }
+{
+    put_boxes(alloc, out, plan, scene)?;
+    put_all_ends(out, plan, lists, scene.links.as_slice())
+}
+
+/// Appends the elements of the legend.
+fn put_legend(out: &mut String, plan: &Plan, scene: &Scene) -> Result<(), Memory>
+    ensures { OnOk result (string_bytes out.new ≡ string_bytes out.old ++ legend_text plan.now scene.now) }
+{
+    put_keys(out, scene.keys.as_slice())?;
+    put_services(out, plan, scene.services.as_slice())
 }
 
 /// Appends the elements of all parts and of the legend.
-fn put_elements(alloc: Global, out: &mut String, plan: &Plan, scene: &Scene) -> Result<(), Memory>
-    ensures { OnOk result (string_bytes out.new ≡ string_bytes out.old ++ elements_text plan.now scene.now) }
+fn put_elements(
+    alloc: Global,
+    out: &mut String,
+    plan: &Plan,
+    lists: bool,
+    scene: &Scene,
+) -> Result<(), Memory>
+    ensures { OnOk result (string_bytes out.new ≡ string_bytes out.old ++ elements_text plan.now lists scene.now) }
 {
-    put_parts(alloc, out, plan, scene)?;
-    put_keys(out, scene.keys.as_slice())?;
-    put_services(out, plan, scene.services.as_slice())
+    put_parts(alloc, out, plan, lists, scene)?;
+    put_legend(out, plan, scene)
 }
 
 /// Appends a scene of a plan as a self-contained SVG picture.
@@ -168,16 +200,24 @@ fn put_elements(alloc: Global, out: &mut String, plan: &Plan, scene: &Scene) -> 
 /// Each bridge, link, customer port and service has an element with a `<title>` that names it: a bridge with its
 /// address and priority, a link with its ends and their states, a port with its service and VID. Its `id` and `data-`
 /// attributes name it to programs. The lines of links come first and are below the boxes. The names of links come after
-/// the boxes. The legend has the signs that the picture uses, and the services.
+/// the boxes, with the lists of services under them if `lists` is true: one line if both ends of a link have the same
+/// list, else one for each end. A link with all services has none. Of a list of more than three names the first two
+/// come, and the number of the others. The legend has the signs that the picture uses, and the services.
 ///
 /// # Errors
 ///
 /// `Memory` if an allocation failed. A part of the picture may have been appended then.
-pub fn put_svg(alloc: Global, out: &mut String, plan: &Plan, scene: &Scene) -> Result<(), Memory>
-    ensures { OnOk result (string_bytes out.new ≡ string_bytes out.old ++ svg_text plan.now scene.now) }
+pub fn put_svg(
+    alloc: Global,
+    out: &mut String,
+    plan: &Plan,
+    lists: bool,
+    scene: &Scene,
+) -> Result<(), Memory>
+    ensures { OnOk result (string_bytes out.new ≡ string_bytes out.old ++ svg_text plan.now lists scene.now) }
 {
     put_head(out, scene)?;
-    put_elements(alloc, out, plan, scene)?;
+    put_elements(alloc, out, plan, lists, scene)?;
     out.push_str("</g>\n</svg>\n")?;
     Ok(())
 }

@@ -2,8 +2,9 @@
 
 ghost use Rattle.std.specs.Prelude.{◌≡◌, ◌++◌, string_bytes, OnOk};
 ghost use Rattle.pb_cmd_draw.specs.SvgBoxes.{rect_text, root_text, cross_lines, cross_text, signs_text, box_name};
-ghost use Rattle.pb_cmd_draw.specs.SvgBoxes.{box_text, place_text, box_class, box_data, box_group, bridge_title, known_bridge};
-ghost use Rattle.pb_cmd_draw.specs.SvgBoxes.{bridge_element, cut_sign, bar_text, port_class, port_data, port_group};
+ghost use Rattle.pb_cmd_draw.specs.SvgBoxes.{box_text, place_text, box_class, box_data, box_group, bridge_title};
+ghost use Rattle.pb_cmd_draw.specs.SvgBoxes.{known_bridge, bridge_element, cut_sign, bar_text, port_class};
+ghost use Rattle.pb_cmd_draw.specs.SvgBoxes.{port_data, port_group};
 ghost use Rattle.pb_cmd_draw.specs.SvgBoxes.{port_title, port_of, known_port, port_element, service_class};
 ghost use Rattle.pb_cmd_draw.specs.SvgBoxes.{service_data, service_group, service_title, service_bar};
 ghost use Rattle.pb_cmd_draw.specs.SvgBoxes.{known_service, service_element};

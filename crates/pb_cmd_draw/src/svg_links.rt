@@ -7,6 +7,7 @@ ghost use Rattle.pb_cmd_draw.specs.SvgLinks.{link_element, mark_of, end_mark, nu
 ghost use Rattle.pb_cmd_draw.specs.SvgLinks.{end_text, both_ends, plate_text, name_text, label_text, known_ends};
 ghost use Rattle.pb_cmd_draw.specs.SvgLinks.{ends_element};
 
+use crate::svg_lists::put_lists;
 use crate::titles::put_link_words;
 use crate::words::{end_word, link_word, losing_word, tone_word};
 use pb_draw_layout::{LinkFacts, LinkMark, LinkState, Point, Route};
@@ -284,11 +285,19 @@ fn put_name(out: &mut String, link: &LinkPlan) -> Result<(), Memory>
     Ok(())
 }
 
-/// Appends the name of a link, on its plate.
-fn put_label(out: &mut String, link: &LinkPlan, route: &Route) -> Result<(), Memory>
-    ensures { OnOk result (string_bytes out.new ≡ string_bytes out.old ++ label_text link.now route.now) }
+/// Appends the name of a link, on its plate, with the lists of services under it or without.
+fn put_label(
+    out: &mut String,
+    plan: &Plan,
+    lists: bool,
+    link: &LinkPlan,
+    route: &Route,
+) -> Result<(), Memory>
+    ensures { OnOk result (string_bytes out.new ≡ string_bytes out.old
+        ++ label_text plan.now lists link.now route.now) }
 {
     put_plate(out, route)?;
+    put_lists(out, plan, lists, link, route.lines_half)?;
     put_name(out, link)
 }
 
@@ -296,24 +305,31 @@ fn put_label(out: &mut String, link: &LinkPlan, route: &Route) -> Result<(), Mem
 fn put_known_ends(
     out: &mut String,
     plan: &Plan,
+    lists: bool,
     link: &LinkPlan,
     mark: &LinkMark,
 ) -> Result<(), Memory>
-    ensures { OnOk result (string_bytes out.new ≡ string_bytes out.old ++ known_ends plan.now link.now mark.now) }
+    ensures { OnOk result (string_bytes out.new ≡ string_bytes out.old
+        ++ known_ends plan.now lists link.now mark.now) }
 {
     put_link_group(out, "ends", plan, link, mark.facts)?;
     put_both_ends(out, plan, link, mark)?;
-    put_label(out, link, &mark.route)?;
+    put_label(out, plan, lists, link, &mark.route)?;
     out.push_str("</g>\n")?;
     Ok(())
 }
 
 /// Appends the ends and the name of the link with the mark's number.
-pub(crate) fn put_ends(out: &mut String, plan: &Plan, mark: &LinkMark) -> Result<(), Memory>
-    ensures { OnOk result (string_bytes out.new ≡ string_bytes out.old ++ ends_element plan.now mark.now) }
+pub(crate) fn put_ends(
+    out: &mut String,
+    plan: &Plan,
+    lists: bool,
+    mark: &LinkMark,
+) -> Result<(), Memory>
+    ensures { OnOk result (string_bytes out.new ≡ string_bytes out.old ++ ends_element plan.now lists mark.now) }
 {
     match numbered(plan.links.as_slice(), mark.facts.number as usize) {
         None => Ok(()),
-        Some(link) => put_known_ends(out, plan, link, mark),
+        Some(link) => put_known_ends(out, plan, lists, link, mark),
     }
 }

@@ -3,12 +3,12 @@
 ghost use Rattle.std.specs.Prelude.{◌≡◌, ◌++◌, string_bytes, OnOk};
 ghost use Rattle.pb_cmd_draw.specs.Titles.{bridge_words, end_words, losses_text, link_words, port_words};
 
-use crate::words::is_lossless;
+use crate::words::{end_word, is_lossless};
 use pb_draw_layout::LinkFacts;
 use pb_forest::vid_numbered;
 use pb_frame::Memory;
 use pb_lan::{BridgePlan, CustomerPlan, End, LinkPlan, Plan, PortState};
-use pb_names::{bridge_name, state_word};
+use pb_names::bridge_name;
 use std::alloc::Global;
 
 /// Appends the title of a bridge: its name, its address and its priority.
@@ -42,14 +42,20 @@ fn put_losses(out: &mut String, plan: &Plan, link: &LinkPlan) -> Result<(), Memo
     Ok(())
 }
 
-/// Appends an end of a link: its bridge, its port and the port's state.
-fn put_end_words(out: &mut String, plan: &Plan, end: &End, state: PortState) -> Result<(), Memory>
-    ensures { OnOk result (string_bytes out.new ≡ string_bytes out.old ++ end_words plan.now end.now state) }
+/// Appends an end of a link: its bridge, its port, and the port's state, or that it is disabled.
+fn put_end_words(
+    out: &mut String,
+    plan: &Plan,
+    end: &End,
+    disabled: bool,
+    state: PortState,
+) -> Result<(), Memory>
+    ensures { OnOk result (string_bytes out.new ≡ string_bytes out.old ++ end_words plan.now end.now disabled state) }
 {
     let name = bridge_name(plan, end.bridge);
     let port = end.port;
-    let state = state_word(state);
-    write!(out, "{name} port {port} {state}")?;
+    let word = end_word(disabled, state);
+    write!(out, "{name} port {port} {word}")?;
     Ok(())
 }
 
@@ -63,9 +69,9 @@ pub(crate) fn put_link_words(
     ensures { OnOk result (string_bytes out.new ≡ string_bytes out.old ++ link_words plan.now link.now facts) }
 {
     write!(out, "link {}: ", link.name.as_str())?;
-    put_end_words(out, plan, &link.a, facts.a)?;
+    put_end_words(out, plan, &link.a, facts.failed.a, facts.a)?;
     out.push_str(", ")?;
-    put_end_words(out, plan, &link.b, facts.b)?;
+    put_end_words(out, plan, &link.b, facts.failed.b, facts.b)?;
     put_losses(out, plan, link)
 }
 

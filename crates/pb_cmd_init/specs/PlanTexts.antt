@@ -188,6 +188,9 @@ needs_text =
     ++ codes "# customer ports. With replay = \"times\", which needs tick_ms, the frames of a file enter"
     ++ codes " as far apart as\n"
     ++ codes "# their times are, divided by speed.\n"
+    ++ codes "# A udp port sends frames in UDP datagrams from local to remote, and receives them from there: each after a\n"
+    ++ codes "# VXLAN header of the network vni or, with encap = \"none\", alone. With framing = 4 the lengths before the\n"
+    ++ codes "# frames of a socket port have four octets, as in QEMU.\n"
 
 -- a port between capture files, as a comment
 abbrev pub capture_text : ℕ → ℕ → List ℕ

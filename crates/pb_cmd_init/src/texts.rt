@@ -70,7 +70,10 @@ const KINDS: &str = "\
 # socket. The file to read must exist, and a peer must listen. With listen in place of path the port\n\
 # creates the socket. With stay = true another peer may follow one that has left. A plan has at most 128\n\
 # customer ports. With replay = \"times\", which needs tick_ms, the frames of a file enter as far apart as\n\
-# their times are, divided by speed.\n";
+# their times are, divided by speed.\n\
+# A udp port sends frames in UDP datagrams from local to remote, and receives them from there: each after a\n\
+# VXLAN header of the network vni or, with encap = \"none\", alone. With framing = 4 the lengths before the\n\
+# frames of a socket port have four octets, as in QEMU.\n";
 
 /// An event and a tap of a run, and an acceptance.
 const FAILURES: &str = "\

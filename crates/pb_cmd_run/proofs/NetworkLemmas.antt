@@ -1,5 +1,5 @@
 -- Plans in files, and their ports (used by the functions of `network.rt`).
-use Rattle.std.proofs.Common.{◌≡◌, ℕ, zero, suc, Bool, refl, List, [], ◌∷◌, ◌++◌, length, map, ap, sym, subst, ◌∙◌}
+use Rattle.std.proofs.Common.{◌≡◌, ◌&&◌, ℕ, zero, suc, Bool, refl, List, [], ◌∷◌, ◌++◌, length, map, ap, sym, subst, ◌∙◌}
 use Rattle.std.proofs.Common.{append-nil, arith, Ok, Err, IfOk}
 use Rattle.std.proofs.lemmas.Slice.Zip.{AllZip-long}
 use Rattle.std.specs.declared.result.Result.{Result}
@@ -25,13 +25,13 @@ pub ports_per_plan : (file : List ℕ) (plan : Plan) (specs : List PortSpec)
 ports_per_plan file plan specs (document, parsed, told) = AllZip-long _ _ specs told.ports
     ∙ sym (AllZip-long _ _ plan.customers told.customers)
 
--- the exit status of a run by its loss report, which a strict run has
-pub exits : (strictness : Strictness) (ended : Ended) (lost text : List ℕ) (told : ℕ) (whole : Bool) (status : ℕ)
-    → status ≡ exit_status strictness whole told → whole ≡ is_whole ended lost → (strictness ≡ Strict → lost ≡ text)
-    → status ≡ exit_status strictness (is_whole ended text) told
-exits Strict ended lost text told whole status s w l = s
-    ∙ ap (λ x. exit_status Strict x told) (w ∙ ap (is_whole ended) (l refl))
-exits Lenient ended lost text told whole status s w l = s
+-- the exit status of a run by its loss report, which a strict run has, and its files
+pub exits : (strictness : Strictness) (ended : Ended) (lost text : List ℕ) (files : Bool) (told : ℕ) (whole : Bool)
+    (status : ℕ) → status ≡ exit_status strictness whole told → whole ≡ (is_whole ended lost && files)
+    → (strictness ≡ Strict → lost ≡ text) → status ≡ exit_status strictness (is_whole ended text && files) told
+exits Strict ended lost text files told whole status s w l = s
+    ∙ ap (λ x. exit_status Strict x told) (w ∙ ap (λ text. is_whole ended text && files) (l refl))
+exits Lenient ended lost text files told whole status s w l = s
 
 -- a fact of an Ok value gives another
 pub on_value : {A E : Type 0} {P Q : A → Type 0} (r : Result A E) → ((x : A) → P x → Q x) → IfOk r P → IfOk r Q

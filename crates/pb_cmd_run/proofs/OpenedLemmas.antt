@@ -11,13 +11,13 @@ map_twice f g [] = refl
 map_twice f g (x ∷ xs) = ap (λ l. f (g x) ∷ l) (map_twice f g xs)
 
 -- they have the frames that the file lists
-pub shows_scripts : {I O S : Type 0} (ports : List (Opened I O S)) (specs : List PortSpec)
+pub shows_scripts : {I O S U : Type 0} (ports : List (Opened I O S U)) (specs : List PortSpec)
     → map shown ports ≡ map asked specs → map (λ port. (shown port).frames) ports ≡ map script_in specs
 shows_scripts ports specs same =
     sym (map_twice (λ (s : Shown). s.frames) shown ports) ∙ ap (map (λ (s : Shown). s.frames)) same
     ∙ map_twice (λ (s : Shown). s.frames) asked specs
 
 -- there are as many
-pub shows_length : {I O S : Type 0} (ports : List (Opened I O S)) (specs : List PortSpec)
+pub shows_length : {I O S U : Type 0} (ports : List (Opened I O S U)) (specs : List PortSpec)
     → map shown ports ≡ map asked specs → length ports ≡ length specs
 shows_length ports specs same = sym (length-map ports shown) ∙ ap length same ∙ length-map specs asked

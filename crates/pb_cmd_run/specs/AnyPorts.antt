@@ -1,10 +1,11 @@
 -- Ports of any kind.
 use Rattle.pb_cmd_run.specs.declared.any_port.AnyPort.{AnyPort}
-use Rattle.pb_cmd_run.specs.declared.any_port.AnyPort.TheVariants.{Memory, Capture, Socket, Staying}
+use Rattle.pb_cmd_run.specs.declared.any_port.AnyPort.TheVariants.{Memory, Capture, Socket, Staying, Datagrams}
 
 -- the value that the port of its kind has
-abbrev pub of_any : {M C S T X : Type 0} → (M → X) → (C → X) → (S → X) → (T → X) → AnyPort M C S T → X
-of_any m c s t (Memory port) = m port
-of_any m c s t (Capture port) = c port
-of_any m c s t (Socket port) = s port
-of_any m c s t (Staying port) = t port
+abbrev pub of_any : {M C S T U X : Type 0} → (M → X) → (C → X) → (S → X) → (T → X) → (U → X) → AnyPort M C S T U → X
+of_any m c s t u (Memory port) = m port
+of_any m c s t u (Capture port) = c port
+of_any m c s t u (Socket port) = s port
+of_any m c s t u (Staying port) = t port
+of_any m c s t u (Datagrams port) = u port

@@ -6,4 +6,5 @@ pub mod Unsent
 pub mod Networks
 pub mod Telling
 pub mod PortFaults
+pub mod DatagramReports
 pub mod Pipes

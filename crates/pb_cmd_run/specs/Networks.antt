@@ -1,5 +1,5 @@
 -- The output for the network of a plan file.
-use Rattle.std.specs.Prelude.{◌≡◌, ◌⊎◌, ℕ, Bool, true, List, [], length, All}
+use Rattle.std.specs.Prelude.{◌≡◌, ◌⊎◌, ◌&&◌, ℕ, Bool, true, List, [], length, All}
 use Rattle.std.specs.Io.KnownBytes.{Appends}
 use Rattle.std.specs.declared.option.Option.{Option}
 use Rattle.std.specs.declared.result.Result.{Result}
@@ -27,8 +27,8 @@ use Rattle.pb_cmd_run.specs.Unsent.{AreUnsent}
 use Rattle.pb_run_losses.specs.Strict.{exit_status, is_whole, lost_text}
 use Rattle.pb_run_losses.specs.declared.strictness.Strictness.{Strictness}
 
--- the report of a run was written, and the exit status is its own, or 4 if the run is strict and was not whole (each
--- customer port has its newest poll, and holds the frames that left and that it did not send)
+-- the report of a run was written, and the exit status is its own, or 4 if the run is strict and was not whole or a file
+-- of a port is not (each customer port has its newest poll, and holds the frames that left and that it did not send)
 pub record PrintsReport (strictness : Strictness) (plan : Plan) (rec : Record) (ended : Ended) (settled : Result (Option Bool) Memory) (lasts : List Last) (status : ℕ) (before after : Option (List ℕ)) : Type 0 where
   pub told : ℕ
   pub text : List ℕ
@@ -37,7 +37,8 @@ pub record PrintsReport (strictness : Strictness) (plan : Plan) (rec : Record) (
   pub unsent : List Frames
   pub unsent_count : length unsent ≡ length plan.customers
   pub unsent_is : AreUnsent unsent rec.customers
-  pub status_is : status ≡ exit_status strictness (is_whole ended (lost_text plan rec settled unsent)) told
+  pub files_whole : Bool
+  pub status_is : status ≡ exit_status strictness (is_whole ended (lost_text plan rec settled unsent) && files_whole) told
 
 -- a plan has run with its ports: the record is lawful and has the guarantees of every run, no full queue refused a copy
 -- if the run was lossless, the frames that entered are those that the ports had, and the report is that of the record

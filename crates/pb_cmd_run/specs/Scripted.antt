@@ -13,9 +13,9 @@ use Rattle.pb_service.specs.declared.port_spec.PortSpec.{PortSpec}
 use Rattle.pb_run_ports.specs.Opened.{script_in}
 
 -- the frames that a port in memory has not given yet
-abbrev pub script_at : {C S T : Type 0} → AnyPort MemoryPort C S T → Option (List (List ℕ))
-script_at {C} {S} {T} = of_any (λ (port : MemoryPort). Some port.script.items) (λ (port : C). None) (λ (port : S). None)
-    (λ (port : T). None)
+abbrev pub script_at : {C S T U : Type 0} → AnyPort MemoryPort C S T U → Option (List (List ℕ))
+script_at {C} {S} {T} {U} = of_any (λ (port : MemoryPort). Some port.script.items) (λ (port : C). None) (λ (port : S). None)
+    (λ (port : T). None) (λ (port : U). None)
 
 -- at each port whose frames the file lists, the first of them entered, and all of them if the port came to its end
 pub record AreScripted (specs : List PortSpec) (customers : List (List Step)) (lasts : List Last) : Type 0 where

@@ -1,5 +1,6 @@
 -- The frames that ports hold after a run.
 use Rattle.std.specs.Prelude.{ℕ, List, [], unwrap_or}
+use Rattle.pb_datagram.specs.declared.datagram_port.DatagramPort.{DatagramPort}
 use Rattle.pb_lan.specs.Counts.{left}
 use Rattle.pb_lan.specs.Numbering.{numbered}
 use Rattle.pb_lan.specs.Records.{steps_of}
@@ -13,11 +14,11 @@ use Rattle.pb_cmd_run.specs.AnyPorts.{of_any}
 use Rattle.pb_cmd_run.specs.declared.any_port.AnyPort.{AnyPort}
 
 -- the frames that wait in a port
-abbrev pub waiting_at : {R W S L : Type 0} → AnyPort MemoryPort (CapturePort R W) (SocketPort S) (StayingPort L)
-    → Frames
-waiting_at {R} {W} {S} {L} = of_any (λ (port : MemoryPort). port.unsent.items)
+abbrev pub waiting_at : {R W S L D : Type 0}
+    → AnyPort MemoryPort (CapturePort R W) (SocketPort S) (StayingPort L) (DatagramPort D) → Frames
+waiting_at {R} {W} {S} {L} {D} = of_any (λ (port : MemoryPort). port.unsent.items)
     (λ (port : CapturePort R W). port.sender.unsent.items) (λ (port : SocketPort S). port.sender.unsent.items)
-    (λ (port : StayingPort L). port.sender.unsent.items)
+    (λ (port : StayingPort L). port.sender.unsent.items) (λ (port : DatagramPort D). port.outbox.unsent.items)
 
 -- the frames that wait in the port of this number
 abbrev pub waiting_of : List Frames → ℕ → Frames

@@ -6,9 +6,9 @@ use bytes::Bytes;
 use pb_port::{Offered, Polled, Port, Pumped, Shelf};
 use std::collections::VecDeque;
 
-/// A port of one of four kinds. Each call goes to that port.
+/// A port of one of five kinds. Each call goes to that port.
 #[derive(Drop)]
-pub(crate) enum AnyPort<M, C, S, T> {
+pub(crate) enum AnyPort<M, C, S, T, U> {
     /// A script and a LAN in memory.
     Memory(M),
     /// Two capture files, or one.
@@ -17,28 +17,30 @@ pub(crate) enum AnyPort<M, C, S, T> {
     Socket(S),
     /// A stream socket whose peers come and go.
     Staying(T),
+    /// Datagrams of one peer.
+    Datagrams(U),
 }
 
-impl<M: Port, C: Port, S: Port, T: Port> Port for AnyPort<M, C, S, T> {
-    ghost script = { of_any M.script C.script S.script T.script };
+impl<M: Port, C: Port, S: Port, T: Port, U: Port> Port for AnyPort<M, C, S, T, U> {
+    ghost script = { of_any M.script C.script S.script T.script U.script };
 
-    ghost given = { of_any M.given C.given S.given T.given };
+    ghost given = { of_any M.given C.given S.given T.given U.given };
 
-    ghost tally = { of_any M.tally C.tally S.tally T.tally };
+    ghost tally = { of_any M.tally C.tally S.tally T.tally U.tally };
 
-    ghost keeps_sent = { of_any M.keeps_sent C.keeps_sent S.keeps_sent T.keeps_sent };
+    ghost keeps_sent = { of_any M.keeps_sent C.keeps_sent S.keeps_sent T.keeps_sent U.keeps_sent };
 
-    ghost waiting = { of_any M.waiting C.waiting S.waiting T.waiting };
+    ghost waiting = { of_any M.waiting C.waiting S.waiting T.waiting U.waiting };
 
-    ghost capacity = { of_any M.capacity C.capacity S.capacity T.capacity };
+    ghost capacity = { of_any M.capacity C.capacity S.capacity T.capacity U.capacity };
 
-    ghost ended = { of_any M.ended C.ended S.ended T.ended };
+    ghost ended = { of_any M.ended C.ended S.ended T.ended U.ended };
 
-    ghost is_shelved = { of_any M.is_shelved C.is_shelved S.is_shelved T.is_shelved };
+    ghost is_shelved = { of_any M.is_shelved C.is_shelved S.is_shelved T.is_shelved U.is_shelved };
 
-    ghost is_failed = { of_any M.is_failed C.is_failed S.is_failed T.is_failed };
+    ghost is_failed = { of_any M.is_failed C.is_failed S.is_failed T.is_failed U.is_failed };
 
-    ghost failed = { of_any M.failed C.failed S.failed T.failed };
+    ghost failed = { of_any M.failed C.failed S.failed T.failed U.failed };
 
     fn poll(&mut self) -> Polled {
         match self {
@@ -46,6 +48,7 @@ impl<M: Port, C: Port, S: Port, T: Port> Port for AnyPort<M, C, S, T> {
             AnyPort::Capture(port) => port.poll(),
             AnyPort::Socket(port) => port.poll(),
             AnyPort::Staying(port) => port.poll(),
+            AnyPort::Datagrams(port) => port.poll(),
         }
     }
 
@@ -55,6 +58,7 @@ impl<M: Port, C: Port, S: Port, T: Port> Port for AnyPort<M, C, S, T> {
             AnyPort::Capture(port) => port.offer(f),
             AnyPort::Socket(port) => port.offer(f),
             AnyPort::Staying(port) => port.offer(f),
+            AnyPort::Datagrams(port) => port.offer(f),
         }
     }
 
@@ -64,6 +68,7 @@ impl<M: Port, C: Port, S: Port, T: Port> Port for AnyPort<M, C, S, T> {
             AnyPort::Capture(port) => port.pump(now),
             AnyPort::Socket(port) => port.pump(now),
             AnyPort::Staying(port) => port.pump(now),
+            AnyPort::Datagrams(port) => port.pump(now),
         }
     }
 
@@ -73,6 +78,7 @@ impl<M: Port, C: Port, S: Port, T: Port> Port for AnyPort<M, C, S, T> {
             AnyPort::Capture(port) => port.unsent(),
             AnyPort::Socket(port) => port.unsent(),
             AnyPort::Staying(port) => port.unsent(),
+            AnyPort::Datagrams(port) => port.unsent(),
         }
     }
 
@@ -82,6 +88,7 @@ impl<M: Port, C: Port, S: Port, T: Port> Port for AnyPort<M, C, S, T> {
             AnyPort::Capture(port) => port.shelve(home),
             AnyPort::Socket(port) => port.shelve(home),
             AnyPort::Staying(port) => port.shelve(home),
+            AnyPort::Datagrams(port) => port.shelve(home),
         }
     }
 }

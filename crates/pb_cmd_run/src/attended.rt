@@ -1,14 +1,16 @@
 //! The gate of a run with sockets.
 
+use crate::datagram_drops::DatagramDrops;
 use crate::door::GateDoor;
 use crate::pacing::GateClock;
 use crate::telling::name_at;
 use crate::watch::Watches;
 use pb_lan::{CustomerPlan, Place};
 use pb_run::{Bells, Dropped, Gate, Go, PortView, StationView, Wish};
-use pb_run_control::{Opening, PeerChange, RunProgress};
+use pb_run_control::{Opening, PeerChange, RunProgress, SocketFailure};
+use std::alloc::Global;
 use std::net::{Net, TcpListener, TcpStream};
-use std::sync::Mutex;
+use std::sync::{Arc, Mutex};
 use std::time::{Clock, Duration};
 
 /// The number of turns of the first bridge's worker between two looks at the doors, while it has something to do.
@@ -17,16 +19,18 @@ const LOOK: u64 = 16;
 /// The number of changes that one look reports at most.
 const MOST: u32 = 256;
 
-/// A change of a peer, and the number of its port, from 1.
+/// What the gate inside receives of the customer port at a place of the plan, from 0.
 #[derive(Drop)]
-struct News {
-    number: u8,
-    change: PeerChange,
+enum News {
+    /// The change of its peer.
+    Peer(usize, PeerChange),
+    /// Failed calls of its socket for datagrams.
+    Socket(usize, SocketFailure),
 }
 
 /// A gate that attends to sockets. The workers of their ports sleep in it until the sockets have octets or room. It
-/// reports how the peers of ports that stay come and go, and connects to the next peer. The worker of the first bridge
-/// does this before its turns. In all else it is the gate inside.
+/// reports how the peers of ports that stay come and go, connects to the next peer, and reports failed calls of sockets
+/// for datagrams. The worker of the first bridge does this before its turns. In all else it is the gate inside.
 #[derive(Drop)]
 pub(crate) struct Attended<'a, R, G> {
     pub rt: &'a R,
@@ -36,16 +40,23 @@ pub(crate) struct Attended<'a, R, G> {
     pub watches: Watches,
     /// The clocks of ports whose frames enter by the times of their records.
     pub clocks: Vec<GateClock>,
+    /// What ports for datagrams dropped.
+    pub drops: Arc<DatagramDrops, Global>,
 }
 
 impl<R: Net + Clock, G> Attended<'_, R, G> {
-    /// Returns the next change that a port has reported, if there is one. Connects for ports that wait for a peer.
-    fn next_news(&self) -> Option<News> {
+    /// Returns what the gate inside has not received yet of a port, if there is something: failed calls of sockets, of
+    /// each kind and port once in a second of the gate's clock, else a change of a peer. Connects for ports that wait
+    /// for a peer.
+    fn next_news(&self, second: u64) -> Option<News> {
+        if let Some((place, failure)) = self.drops.next_failure(second) {
+            return Some(News::Socket(place, failure));
+        }
         let mut doors = self.doors.try_lock()?;
         for door in doors.iter_mut() {
             if let Some(change) = door.next_change() {
-                let number = door.number;
-                return Some(News { number, change });
+                let place = usize::from(door.number).wrapping_sub(1);
+                return Some(News::Peer(place, change));
             }
             if door.connect(self.rt) {
                 self.watches.rouse(door.number);
@@ -66,9 +77,9 @@ impl<R: Net + Clock, G> Attended<'_, R, G> {
         }
     }
 
-    /// Returns the name of the port of this number, from 1.
-    fn name(&self, number: u8) -> &str {
-        name_at(self.customers, usize::from(number).wrapping_sub(1))
+    /// Returns the name of the port at a place of the plan, from 0.
+    fn name(&self, place: usize) -> &str {
+        name_at(self.customers, place)
     }
 }
 
@@ -80,8 +91,11 @@ where
         self.set_clock(place);
         if turn % LOOK == 0 && place == Place::Bridge(1) {
             for _ in 0..MOST {
-                match self.next_news() {
-                    Some(news) => self.gate.peer(self.name(news.number), news.change),
+                match self.next_news(self.gate.seconds()) {
+                    Some(News::Peer(port, change)) => self.gate.peer(self.name(port), change),
+                    Some(News::Socket(port, failure)) => {
+                        self.gate.socket(self.name(port), failure)
+                    }
                     None => break,
                 }
             }
@@ -93,8 +107,11 @@ where
         self.set_clock(place);
         if place == Place::Bridge(1) {
             for _ in 0..MOST {
-                match self.next_news() {
-                    Some(news) => self.gate.peer(self.name(news.number), news.change),
+                match self.next_news(self.gate.seconds()) {
+                    Some(News::Peer(port, change)) => self.gate.peer(self.name(port), change),
+                    Some(News::Socket(port, failure)) => {
+                        self.gate.socket(self.name(port), failure)
+                    }
                     None => break,
                 }
             }
@@ -167,11 +184,12 @@ where
         self.gate.open(opening);
     }
 
-    /// Reports the changes that nobody has reported yet, and closes the gate inside.
+    /// Reports what nobody has reported yet, and closes the gate inside.
     fn close(&self) {
         for _ in 0..MOST {
-            match self.next_news() {
-                Some(news) => self.gate.peer(self.name(news.number), news.change),
+            match self.next_news(self.gate.seconds()) {
+                Some(News::Peer(port, change)) => self.gate.peer(self.name(port), change),
+                Some(News::Socket(port, failure)) => { self.gate.socket(self.name(port), failure) }
                 None => break,
             }
         }
@@ -180,6 +198,10 @@ where
 
     fn peer(&self, port: &str, change: PeerChange) {
         self.gate.peer(port, change);
+    }
+
+    fn socket(&self, port: &str, failure: SocketFailure) {
+        self.gate.socket(port, failure);
     }
 
     fn seconds(&self) -> u64 {

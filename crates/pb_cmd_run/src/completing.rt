@@ -88,14 +88,16 @@ fn finish<R: Files<File = File>>(rt: &R, alloc: Global, written: &WrittenFile) -
     }
 }
 
-/// Completes the files of ports and taps. Writes a line to `errors` for each to which a write failed.
+/// Completes the files of ports and taps. Writes a line to `errors` for each to which a write failed. Returns whether
+/// there is none among those of ports.
 pub(crate) fn complete_all<R: Files<File = File>, E: Write>(
     rt: &R,
     alloc: Global,
     users: Users<'_>,
     files: &[CaptureFiles],
     errors: &mut E,
-) {
+) -> bool {
+    let mut are_whole = true;
     for captures in files {
         let Some(written) = &captures.written else {
             continue;
@@ -103,6 +105,8 @@ pub(crate) fn complete_all<R: Files<File = File>, E: Write>(
         if let Err(error) = finish(rt, alloc, written) {
             let (place, path) = (captures.place, written.path.as_str());
             show_path_fault(alloc, users, place, Verb::Write, path, &error, errors);
+            are_whole = are_whole && place >= users.customers.len();
         }
     }
+    are_whole
 }

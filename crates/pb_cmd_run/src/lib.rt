@@ -9,6 +9,9 @@ mod any_port;
 mod attended;
 mod completing;
 mod cut;
+mod datagram_drops;
+mod datagram_report;
+mod datagram_socket;
 mod door;
 mod file_ports;
 mod input;
@@ -39,10 +42,10 @@ mod watched;
 
 pub use network::run_network;
 pub use network_fault::NetworkFault;
-pub use pb_run_control::{Opening, PeerChange, RunProgress, Traffic};
+pub use pb_run_control::{Opening, PeerChange, RunProgress, SocketFailure, Traffic};
 pub use pb_run_losses::{Strictness, lost_of};
 pub use pb_run_ports::{
-    Deed, FileUser, OpenFault, Opened, Openings, PathFault, SharedFile, Verb, open_all,
+    Deed, ExposedPort, FileUser, OpenFault, Opened, Openings, PathFault, SharedFile, Verb, open_all,
 };
 pub use pipe::open_unwaiting;
 pub use report::write_report;

@@ -14,6 +14,7 @@ ghost use Rattle.pb_run_ports.specs.Opened.{script_in};
 
 use crate::attended::Attended;
 use crate::completing::{CaptureFiles, complete_all};
+use crate::datagram_drops::DatagramDrops;
 use crate::linger::Lingering;
 use crate::network_fault::NetworkFault;
 use crate::outcome::tell_run;
@@ -105,6 +106,7 @@ fn run_ports<R, G: RunProgress, W: Write, E: Write>(
     ports: Vec<Watched<SystemPort>>,
     taps: Vec<SystemTap>,
     files: &[CaptureFiles],
+    drops: &DatagramDrops,
     limits: Limits,
     is_lossless: bool,
     strictness: Strictness,
@@ -143,12 +145,13 @@ where
     match run_tapped(rt, alloc, plan, held, recorders, gate, limits, is_lossless) {
         Ok(run) => {
             tell_run(
-                rt, alloc, strictness, plan, users, files, run, lingering, gate, writer, errors,
+                rt, alloc, strictness, plan, users, files, drops, run, lingering, gate, writer,
+                errors,
             )
         }
         Err(fault) => {
             gate.close();
-            complete_all(rt, alloc, users, files, errors);
+            let _ = complete_all(rt, alloc, users, files, errors);
             Err(NetworkFault::from(fault.cause))
         }
     }
@@ -168,6 +171,7 @@ fn attended<'a, R, G>(
         doors: Mutex::new(duty.doors),
         watches: duty.watches,
         clocks: duty.clocks,
+        drops: duty.drops,
     }
 }
 
@@ -205,7 +209,8 @@ where
         millis: settings.linger,
         traffic,
     };
-    let mut duty = Attendance::new(alloc);
+    let mut duty = Attendance::new(alloc, plan.customers.len())?;
+    let drops = Arc::try_clone(&duty.drops)?;
     let names = link_names(alloc, plan, taps.as_slice())?;
     let users = Users {
         customers: plan.customers.as_slice(),
@@ -229,6 +234,7 @@ where
         ports,
         taps,
         files.as_slice(),
+        &drops,
         limits,
         is_lossless,
         strictness,
@@ -263,14 +269,16 @@ where
 /// After a run that has drained, files and pipes are written until they have taken every frame or the gate stops the
 /// run. Then ports and taps have time to write what remains, as the settings say. An output file to
 /// which nothing was written becomes a capture without records, or `errors` reports why it can't. Sockets that ports
-/// made are removed. `errors` names the inputs that are pcapng. After the report it has the losses ([`lost_of`]), the
-/// other dropped frames ([`dropped_of`]), the frames in transit ([`transit_of`]) and those that taps did not write. A
-/// strict run that had losses or did not end drained has the status 4 in place of 0.
+/// made are removed. `errors` names the inputs that are pcapng. After the report it has the losses ([`lost_of`]), what
+/// ports for datagrams dropped, the other dropped frames ([`dropped_of`]), the frames in transit ([`transit_of`]) and
+/// those that taps did not write. A strict run that had losses, did not end drained, or could not write a file of a
+/// port has the status 4 in place of 0. A run with a port for datagrams never ends drained, since frames may always come.
 ///
 /// # Errors
 ///
-/// `Path` if the control socket can't be made, a file can't be opened, made or emptied, a socket can't be made or
-/// connected to, or a file has two uses. `errors` names it. The control socket is made first. Then files and sockets
+/// `Path` if the control socket can't be made, a file can't be opened, made or emptied, a socket can't be made,
+/// connected to or bound, a file has two uses, or a port would bind an address that is not loopback and the settings do
+/// not allow it. `errors` names it. The control socket is made first. Then files and sockets
 /// are opened as [`open_all`] says, and no file is emptied before all are open.
 ///
 /// `Memory` if an allocation failed for the plan, the ports, the workers or the written text. `Spawn` if a thread can't

@@ -15,8 +15,9 @@ use thiserror::Error;
 /// A reason why the network of a plan file is not run, or its run not reported.
 #[derive(Clone, Copy, Debug, PartialEq, Eq, Error)]
 pub enum NetworkFault {
-    /// A port's file can't be opened, made or emptied, its socket can't be made or connected to, a file has two uses,
-    /// or the control socket can't be made. Nothing has run.
+    /// A port's file can't be opened, made or emptied, its socket can't be made, connected to or bound, a file has two
+    /// uses, a port would bind an address that is not loopback and may not, or the control socket can't be made.
+    /// Nothing has run.
     #[error("path")]
     Path,
     /// The report, or the line for a refused plan file, can't be written.

@@ -1,6 +1,6 @@
 //! What a run that has ended prints.
 
-ghost use Rattle.std.specs.Prelude.{◌≡◌, ◌≢◌, ◌⊎◌, length, map, string_bytes, IfOk, IfErr};
+ghost use Rattle.std.specs.Prelude.{◌≡◌, ◌≢◌, ◌⊎◌, ◌&&◌, length, map, string_bytes, IfOk, IfErr};
 ghost use Rattle.std.specs.Io.KnownBytes.{Keeps};
 ghost use Rattle.pb_lan.specs.Plans.{IsSound};
 ghost use Rattle.pb_relay.specs.Settled.{TellsSettled};
@@ -10,6 +10,8 @@ ghost use Rattle.pb_run_losses.specs.Strict.{lost_text};
 ghost use Rattle.pb_run_losses.specs.declared.strictness.Strictness.TheVariants.{Strict as strict};
 
 use crate::completing::{CaptureFiles, complete_all};
+use crate::datagram_drops::DatagramDrops;
+use crate::datagram_report::show_datagram_drops;
 use crate::linger::{Lingering, lingered};
 use crate::network::show;
 use crate::network_fault::NetworkFault;
@@ -70,7 +72,15 @@ fn show_drops<E: Write>(alloc: Global, plan: &Plan, counts: &Tallies, errors: &m
     }
 }
 
-/// Writes the report of a run and its losses, and returns the exit status.
+/// Returns whether a run was whole, and the files of its ports are.
+fn is_intact(is_whole: bool, are_files_whole: bool) -> bool
+    ensures { result ≡ (is_whole && are_files_whole) }
+{
+    is_whole && are_files_whole
+}
+
+/// Writes the report of a run, its losses and what ports for datagrams dropped, and returns the exit status. The ports
+/// over captures have these files, and `are_files_whole` says whether all writes to them succeeded.
 ///
 /// # Errors
 ///
@@ -80,6 +90,9 @@ fn tell<W: Write, E: Write>(
     alloc: Global,
     strictness: Strictness,
     plan: &Plan,
+    files: &[CaptureFiles],
+    are_files_whole: bool,
+    drops: &DatagramDrops,
     ran: &Ran,
     writer: &mut W,
     errors: &mut E,
@@ -87,9 +100,9 @@ fn tell<W: Write, E: Write>(
     requires sound { IsSound plan.now }
     requires settled { IfOk ran.now.settled (TellsSettled plan.now ran.now.counts) }
     requires lasts { length ran.now.last.items ≡ length plan.now.customers }
-    requires ports { length ran.now.ports.items ≡ length plan.now.customers }
+    requires ports { (length ran.now.ports.items ≡ length plan.now.customers)
+        × (length ran.now.counts.customers ≡ length plan.now.customers) }
     requires unsent { AreUnsent (map (λ b. waiting (b.vtable, b.value)) ran.now.ports.items) ran.now.counts.customers }
-    requires lists { length ran.now.counts.customers ≡ length plan.now.customers }
     ensures ok { IfOk result (λ status. PrintsReport strictness plan.now ran.now.counts ran.now.ended ran.now.settled
         ran.now.last.items status
         (W.contents writer.old) (W.contents writer.new)) }
@@ -99,11 +112,13 @@ fn tell<W: Write, E: Write>(
     let ports = ran.ports.as_slice();
     let lost = lost_under(alloc, strictness, plan, ports, &ran.counts, &ran.settled)?;
     let told = write_report(alloc, plan, ran, writer)?;
-    show_port_faults(alloc, plan, ran, errors);
+    show_port_faults(alloc, plan, files, ran, errors);
     show(lost.as_str(), errors);
+    show_datagram_drops(alloc, plan.customers.as_slice(), drops, errors);
     show_drops(alloc, plan, &ran.counts, errors);
     let is_whole = is_whole(ran.ended, lost.as_str());
-    Ok(exit_status(strictness, is_whole, told))
+    let is_intact = is_intact(is_whole, are_files_whole);
+    Ok(exit_status(strictness, is_intact, told))
 }
 
 /// Waits for the readers of a run that has drained, and closes the gate. Gives ports and taps time to write, completes
@@ -119,6 +134,7 @@ pub(crate) fn tell_run<R: Files<File = File> + Clock, G: RunProgress, W: Write, 
     plan: &Plan,
     users: Users<'_>,
     files: &[CaptureFiles],
+    drops: &DatagramDrops,
     run: TappedRun,
     lingering: Lingering<'_>,
     gate: &G,
@@ -128,9 +144,9 @@ pub(crate) fn tell_run<R: Files<File = File> + Clock, G: RunProgress, W: Write, 
     requires sound { IsSound plan.now }
     requires settled { IfOk run.ran.settled (TellsSettled plan.now run.ran.counts) }
     requires lasts { length run.ran.last.items ≡ length plan.now.customers }
-    requires ports { length run.ran.ports.items ≡ length plan.now.customers }
+    requires ports { (length run.ran.ports.items ≡ length plan.now.customers)
+        × (length run.ran.counts.customers ≡ length plan.now.customers) }
     requires unsent { AreUnsent (map (λ b. waiting (b.vtable, b.value)) run.ran.ports.items) run.ran.counts.customers }
-    requires lists { length run.ran.counts.customers ≡ length plan.now.customers }
     ensures ok { IfOk result (λ status. PrintsReport strictness plan.now run.ran.counts run.ran.ended run.ran.settled
         run.ran.last.items status (W.contents writer.old) (W.contents writer.new)) }
     ensures kinds { IfErr result (λ e. (e ≡ NetworkFault.Write) ⊎ (e ≡ NetworkFault.Memory)) }
@@ -139,10 +155,12 @@ pub(crate) fn tell_run<R: Files<File = File> + Clock, G: RunProgress, W: Write, 
     let run = read_out(rt, gate, files, run, lingering.traffic);
     gate.close();
     let TappedRun { ran, mut taps } = lingered(rt, run, lingering);
-    complete_all(rt, alloc, users, files, errors);
+    let are_whole = complete_all(rt, alloc, users, files, errors);
     let lasts = ran.last.as_slice();
     show_pcapng(rt, alloc, users.customers, files, lasts, errors);
-    let told = tell(alloc, strictness, plan, &ran, writer, errors);
+    let told = tell(
+        alloc, strictness, plan, files, are_whole, drops, &ran, writer, errors,
+    );
     show_unwritten(alloc, plan, taps.as_mut_slice(), errors);
     told
 }

@@ -1,6 +1,6 @@
 //! The files and sockets of the ports of a network.
 
-ghost use Rattle.std.specs.Prelude.{◌≡◌, ◌⊎◌, ◌<◌, ◌≤◌, [], All, length, map, vec_len, IfOk, IfErr};
+ghost use Rattle.std.specs.Prelude.{◌≡◌, ◌⊎◌, ◌<◌, ◌≤◌, [], None, Some, All, length, map, vec_len, IfOk, IfErr};
 ghost use Rattle.pb_lan.specs.Plans.{IsSound};
 ghost use Rattle.pb_run_ports.specs.Opened.{script_in, shown};
 ghost use Rattle.pb_cmd_run.specs.Scripted.{script_at};
@@ -8,16 +8,18 @@ ghost use Rattle.pb_cmd_run.specs.Unsent.{waiting_at};
 
 use crate::any_port::AnyPort;
 use crate::completing::CaptureFiles;
+use crate::datagram_socket::DatagramSocket;
 use crate::file_ports::{
     FilePort, capture_port, day_scale, put_files, record_port, replay_port, scale_of, sink_of,
 };
 use crate::input::Input;
 use crate::network_fault::NetworkFault;
-use crate::pacing::paced;
+use crate::pacing::{GateClock, paced};
 use crate::peer::{Peer, SocketFile, remove_sockets};
 use crate::readers::await_readers;
 use crate::settings::RunSettings;
-use crate::socket_ports::{Attendance, socket_port};
+use crate::sink::Sink;
+use crate::socket_ports::{Attendance, datagram_port, socket_port};
 use crate::system::{Output, System, another_input};
 use crate::taps::{SystemTap, TapPlace, put_taps, taps_of};
 use crate::telling::show_open_fault;
@@ -26,12 +28,14 @@ use crate::visits::Visits;
 use crate::watch::Post;
 use crate::watched::Watched;
 use bytes::Bytes;
+use mio::net::UdpSocket;
+use pb_datagram::DatagramPort;
 use pb_frame::Seq;
 use pb_lan::{Limits, Plan};
 use pb_port::{MemoryPort, Over, SocketPort, StayingPort, Timescale};
 use pb_run_control::{RunProgress, Traffic};
 use pb_run_ports::{Opened, open_all};
-use pb_service::{PortSpec, TapSpec};
+use pb_service::{Pace, PortSpec, TapSpec};
 use std::alloc::{AllocError, Global};
 use std::collections::VecDeque;
 use std::fs::{File, Files};
@@ -40,16 +44,17 @@ use std::net::Net;
 use std::sync::Arc;
 use std::time::Clock;
 
-/// A port over memory, over files of the system or over a socket of the system.
+/// A port over memory, over files of the system or over sockets of the system.
 pub(crate) type SystemPort = AnyPort<
     MemoryPort,
     FilePort,
     SocketPort<Over<Peer>>,
     StayingPort<Visits>,
+    DatagramPort<DatagramSocket>,
 >;
 
 /// The open files or the open socket of a port.
-pub(crate) type SystemOpened = Opened<Input, Output, Peer>;
+pub(crate) type SystemOpened = Opened<Input, Output, Peer, UdpSocket>;
 
 /// The ports and taps of a network, the files of those over captures, and the sockets that some of them made.
 pub(crate) struct Outside {
@@ -80,34 +85,70 @@ fn script_of(alloc: Global, frames: Seq<Bytes>) -> Result<VecDeque<Bytes>, Alloc
     Ok(script)
 }
 
-/// Returns the port at a place of the plan over its open files or its open socket. The files of a port over captures
-/// are appended to `files`. The gate attends to its clock and to the door of a port that stays. Sockets are put under
-/// watch at the post.
+/// Returns a port at which these frames enter.
+///
+/// # Errors
+///
+/// `AllocError` if an allocation failed.
+fn memory_port(alloc: Global, capacity: u16, frames: Seq<Bytes>) -> Result<SystemPort, AllocError>
+    requires { (0 < capacity) × (capacity ≤ 4096) }
+    ensures script { IfOk result (λ port. script_at port ≡ Some frames) }
+    ensures fresh { IfOk result (λ port. waiting_at port ≡ []) }
+{
+    let script = script_of(alloc, frames)?;
+    Ok(AnyPort::Memory(MemoryPort::new(alloc, capacity, script)))
+}
+
+/// Returns the port of this number, which reads one capture at its pace and writes another. The gate's side of its
+/// clock, if it has one, is appended to `clocks`.
+///
+/// # Errors
+///
+/// `AllocError` if an allocation failed.
+fn paced_port(
+    alloc: Global,
+    capacity: u16,
+    number: u8,
+    scale: Timescale,
+    pace: Pace,
+    input: Input,
+    sink: Sink,
+    clocks: &mut Vec<GateClock>,
+) -> Result<SystemPort, AllocError>
+    requires { (0 < capacity) × (capacity ≤ 4096) }
+    ensures script { IfOk result (λ port. script_at port ≡ None) }
+    ensures fresh { IfOk result (λ port. waiting_at port ≡ []) }
+{
+    let input = paced(alloc, number, pace, input, clocks)?;
+    let port = capture_port(alloc, capacity, scale, input, sink);
+    Ok(AnyPort::Capture(port))
+}
+
+/// Returns the port at a place of the plan, of this number, over its open files or its open socket, in which so many
+/// frames may wait. The files of a port over captures are appended to `files`. The gate attends to its clock and to the
+/// door of a port that stays. Sockets are put under watch at the post.
 ///
 /// # Errors
 ///
 /// `AllocError` if an allocation failed.
 fn port_of(
     alloc: Global,
-    capacity: u16,
+    queue: u16,
     place: usize,
+    number: u8,
     day: Timescale,
     opened: SystemOpened,
     post: Post,
     files: &mut Vec<CaptureFiles>,
     duty: &mut Attendance,
 ) -> Result<SystemPort, AllocError>
-    requires { (0 < capacity) × (capacity ≤ 4096) }
+    requires { (0 < queue) × (queue ≤ 4096) }
     ensures script { IfOk result (λ port. script_at port ≡ (shown opened).frames) }
     ensures fresh { IfOk result (λ port. waiting_at port ≡ []) }
 {
-    let number = number_at(place);
-    let (clocks, doors) = (&mut duty.clocks, &mut duty.doors);
+    let (clocks, doors, drops) = (&mut duty.clocks, &mut duty.doors, &duty.drops);
     match opened {
-        Opened::Memory(frames) => {
-            let script = script_of(alloc, frames)?;
-            Ok(AnyPort::Memory(MemoryPort::new(alloc, capacity, script)))
-        }
+        Opened::Memory(frames) => memory_port(alloc, queue, frames),
         Opened::Capture {
             input,
             output,
@@ -117,10 +158,8 @@ fn port_of(
             stamp,
         } => {
             let sink = sink_of(alloc, files, place, Some(read), output, write)?;
-            let input = paced(alloc, number, pace, input, clocks)?;
             let scale = scale_of(stamp, day);
-            let port = capture_port(alloc, capacity, scale, input, sink);
-            Ok(AnyPort::Capture(port))
+            paced_port(alloc, queue, number, scale, pace, input, sink, clocks)
         }
         Opened::Record {
             output,
@@ -129,22 +168,29 @@ fn port_of(
         } => {
             let sink = sink_of(alloc, files, place, None, output, write)?;
             let scale = scale_of(stamp, day);
-            Ok(AnyPort::Capture(record_port(alloc, capacity, scale, sink)))
+            Ok(AnyPort::Capture(record_port(alloc, queue, scale, sink)))
         }
         Opened::Replay { input, read, pace } => {
             put_files(files, place, Some(read), None)?;
             let input = paced(alloc, number, pace, input, clocks)?;
-            Ok(AnyPort::Capture(replay_port(alloc, capacity, input)))
+            Ok(AnyPort::Capture(replay_port(alloc, queue, input)))
         }
-        Opened::Socket { stream, stays } => {
-            socket_port(alloc, capacity, number, stream, stays, post, doors)
-        }
+        Opened::Socket {
+            stream,
+            stays,
+            framing,
+        } => socket_port(alloc, queue, number, stream, framing, stays, post, doors),
+        Opened::Udp {
+            socket,
+            remote,
+            network,
+        } => datagram_port(alloc, queue, number, socket, remote, network, post, drops),
     }
 }
 
 /// Checks whether an open port has sockets.
 fn has_sockets(opened: &SystemOpened) -> bool {
-    matches!(opened, Opened::Socket { .. })
+    matches!(opened, Opened::Socket { .. } | Opened::Udp { .. })
 }
 
 /// Returns the number of frames that may wait in the customer port at a place, from 0: 1 to 4096.
@@ -189,11 +235,12 @@ fn ports_of(
         let place = ports.len();
         let capacity = capacity_of(plan, place);
         let post = duty.watches.add(net, alloc, has_sockets(&port))?;
-        let port = port_of(alloc, capacity, place, day, port, post, files, duty)?;
+        let number = number_at(place);
+        let port = port_of(alloc, capacity, place, number, day, port, post, files, duty)?;
         let traffic = Arc::try_clone(traffic)?;
         ports.push(Watched {
             port,
-            number: number_at(place),
+            number,
             traffic,
             latest: 0,
         })?;
@@ -206,8 +253,8 @@ fn ports_of(
 ///
 /// # Errors
 ///
-/// `Path` if a file or socket can't be opened or a file has two uses, `Memory` if an allocation failed. Sockets that
-/// were made are removed then. There are no other errors.
+/// `Path` if a file or socket can't be opened, a file has two uses or a port may not bind its address, `Memory` if an
+/// allocation failed. Sockets that were made are removed then. There are no other errors.
 fn open_system<R: Files<File = File> + Net + Clock, E: Write>(
     rt: &R,
     alloc: Global,
@@ -227,7 +274,8 @@ fn open_system<R: Files<File = File> + Net + Clock, E: Write>(
         input: another_input(&settings.input),
         sockets: Vec::new(alloc),
     };
-    match open_all(alloc, &mut system, settings.plan, specs) {
+    let allows_network = settings.allows_network;
+    match open_all(alloc, &mut system, settings.plan, specs, allows_network) {
         Ok(opened) => {
             let System { sockets, .. } = system;
             Ok(OpenSystem { opened, sockets })
@@ -253,8 +301,8 @@ struct OpenParts {
 ///
 /// # Errors
 ///
-/// `Path` if a file or socket can't be opened or a file has two uses, `Memory` if an allocation failed. Sockets that
-/// were made are removed then. There are no other errors.
+/// `Path` if a file or socket can't be opened, a file has two uses or a port may not bind its address, `Memory` if an
+/// allocation failed. Sockets that were made are removed then. There are no other errors.
 fn open_parts<R: Files<File = File> + Net + Clock, E: Write>(
     rt: &R,
     alloc: Global,
@@ -295,8 +343,8 @@ fn open_parts<R: Files<File = File> + Net + Clock, E: Write>(
 ///
 /// # Errors
 ///
-/// `Path` if a file or socket can't be opened or a file has two uses, with a line in `errors`. `Memory` if an
-/// allocation failed. Sockets that were made are removed then. There are no other errors.
+/// `Path` if a file or socket can't be opened, a file has two uses or a port may not bind its address, with a line in
+/// `errors`. `Memory` if an allocation failed. Sockets that were made are removed then. There are no other errors.
 pub(crate) fn open_ports<R: Files<File = File> + Net + Clock, G: RunProgress, E: Write>(
     rt: &R,
     alloc: Global,

@@ -14,6 +14,8 @@ pub struct RunSettings<'a> {
     /// The maximum time, in milliseconds, in which ports write waiting frames after the run. A run that has drained
     /// waits for the readers of pipes before that.
     pub linger: u32,
+    /// Whether ports may bind addresses that are not loopback, at which other hosts reach them.
+    pub allows_network: bool,
     /// A handle of standard input, which ports read whose path is `-`. If it is left out, it is opened by its path.
     pub input: Option<OwnedFd>,
 }

@@ -3,14 +3,14 @@
 use crate::input::{Input, input_path, open_input};
 use crate::peer::{Peer, SocketFile};
 use crate::pipe::open_unwaiting;
-use mio::net::UnixStream;
+use mio::net::{UdpSocket, UnixStream};
 use pb_control_socket::{listen, node_at};
 use pb_frame::{Memory, Text};
 use pb_run_ports::Openings;
 use std::alloc::{AllocError, Global};
 use std::fs::{File, Files, Metadata, OpenOptions};
 use std::io::ErrorKind;
-use std::net::Net;
+use std::net::{Net, SocketAddr};
 use std::os::fd::OwnedFd;
 use std::os::unix::fs::{FileTypeExt, MetadataExt};
 use std::path::Path;
@@ -125,6 +125,8 @@ impl<R: Files<File = File> + Net + Clock> Openings for System<'_, R> {
 
     type Stream = Peer;
 
+    type Datagrams = UdpSocket;
+
     fn file_at(&self, alloc: Global, path: &str) -> Result<Option<Text>, Memory> {
         let file = file_at(self.rt, alloc, path)?;
         Ok(file.map(|text| Text::from_string(text)))
@@ -155,6 +157,10 @@ impl<R: Files<File = File> + Net + Clock> Openings for System<'_, R> {
             last.node = node_at(self.rt, path);
         }
         Ok(Peer::awaited(listener))
+    }
+
+    fn bind(&mut self, local: SocketAddr) -> io::Result<UdpSocket> {
+        UdpSocket::bind(self.rt, local)
     }
 
     fn open_write(&mut self, path: &str) -> io::Result<Output> {

@@ -16,6 +16,9 @@ use std::io::{Error, Write};
 /// The text before the line of a fault.
 const PREFIX: &str = "error: ";
 
+/// The reason why an address is not bound at which other hosts reach the port.
+const EXPOSED: &str = "not a loopback address: --allow-network allows it";
+
 /// Returns the name of the customer port at a place of the plan, from 0, or the empty text if there is none.
 #[tactic(auto, using(crate::proofs::TellingLemmas::named, crate::proofs::TellingLemmas::unnamed))]
 pub(crate) fn name_at(customers: &[CustomerPlan], place: usize) -> &str
@@ -28,7 +31,7 @@ pub(crate) fn name_at(customers: &[CustomerPlan], place: usize) -> &str
     }
 }
 
-/// Returns the word for the use that a port makes of a path.
+/// Returns the word for the use that a port makes of a path or an address.
 fn word_of(verb: Verb) -> &'static str
     ensures { result.now ≡ word_of verb }
 {
@@ -37,6 +40,7 @@ fn word_of(verb: Verb) -> &'static str
         Verb::Write => "write",
         Verb::Connect => "connect",
         Verb::Listen => "listen",
+        Verb::Bind => "bind",
     }
 }
 
@@ -116,6 +120,10 @@ fn put_sharing(out: &mut String, users: Users<'_>, other: FileUser) -> Result<()
             out.push_str("also the plan file")?;
             Ok(())
         }
+        FileUser::Report => {
+            out.push_str("also standard output, to which the report goes")?;
+            Ok(())
+        }
         FileUser::Reader(place) => {
             out.push_str("also read by ")?;
             put_user(out, users, place)?;
@@ -153,6 +161,11 @@ pub(crate) fn write_open_fault<W: Write>(
             put_sharing(&mut why, users, f.other)?;
             let (word, path) = (word_of(Verb::Write), f.path.as_str());
             write_line(alloc, users, f.place, word, path, why.as_str(), writer)
+        }
+        OpenFault::Exposed(port) => {
+            let local = format!(in alloc; "{}", port.local)?;
+            let (word, why) = (word_of(Verb::Bind), EXPOSED);
+            write_line(alloc, users, port.place, word, local.as_str(), why, writer)
         }
         OpenFault::Memory => Ok(()),
     }

@@ -1,8 +1,9 @@
 -- The meaning of a strict run's exit status.
-use Rattle.std.proofs.Common.{◌≡◌, ◌⊎◌, ℕ, zero, suc, Bool, true, false, refl, sym, subst, ◌∙◌, List, [], ◌∷◌, Option}
+use Rattle.std.proofs.Common.{◌≡◌, ◌⊎◌, ◌&&◌, ℕ, zero, suc, Bool, true, false, refl, sym, subst, ◌∙◌, List, [], ◌∷◌, Option}
 use Rattle.std.proofs.Common.{inl, inr}
 use Rattle.std.proofs.Common.{IfOk}
 use Rattle.std.specs.declared.result.Result.{Result}
+use Rattle.pb_frame.proofs.Lists.{and-left}
 use Rattle.pb_report.specs.Refusals.{PrintsRefusal}
 use Rattle.pb_run.specs.declared.ended.Ended.{Ended}
 use Rattle.pb_run.specs.declared.ended.Ended.TheVariants.{Drained, NoMemory, Limit, Stopped}
@@ -43,8 +44,10 @@ of_run file status before after e run =
     let ran = run.prints in
     let report = ran.report in
     let lost = lost_text run.plan ran.rec ran.settled report.unsent in
-    let whole = whole_at (is_whole ran.ended lost) report.told (sym e ∙ report.status_is) in
-    let told = told_at (is_whole ran.ended lost) report.told (sym e ∙ report.status_is) in
+    let status = sym e ∙ report.status_is in
+    let whole = and-left (is_whole ran.ended lost) report.files_whole
+    (whole_at (is_whole ran.ended lost && report.files_whole) report.told status) in
+    let told = told_at (is_whole ran.ended lost && report.files_whole) report.told status in
     let drained = drained_at ran.ended lost whole in
     record {
       plan = run.plan;

@@ -9,10 +9,13 @@ ghost use Rattle.pb_cmd_run.specs.Faults.{ComesOf};
 ghost use Rattle.pb_cmd_run.specs.Networks.{HasCarriedAll};
 ghost use Rattle.pb_run_losses.specs.declared.strictness.Strictness.TheVariants.{Strict as strict};
 
+mod bindings;
 mod both;
 mod captures;
+mod datagrams;
 mod files;
 mod folder;
+mod framing;
 mod generated;
 mod lingering;
 mod lossless;
@@ -158,6 +161,7 @@ where
         control: None,
         settles: false,
         linger: manner.linger,
+        allows_network: false,
     };
     let strictness = manner.strictness;
     let result = run_network(

@@ -171,9 +171,9 @@ fn listen_in<R: Files<File = File> + Net + Clock>(
     Ok(listener)
 }
 
-/// Opens a Unix socket at a path, to which only its owner may connect. No call of the socket waits. The socket is made in a
-/// folder beside the path that only its owner can enter, and gets its name once it has its mode: a peer that finds it
-/// may connect, and stays connected. The folder is removed again.
+/// Opens a Unix socket at a path, to which only its owner may connect. No call of the socket waits. The socket is made
+/// in a folder beside the path that only its owner can enter, and gets its name once it has its mode: a peer that finds
+/// it may connect, and stays connected. The folder is removed again.
 ///
 /// A file at the path is replaced only if it is a socket on which nobody listens. Of several that do so at once, one
 /// succeeds: the folder of the path is locked meanwhile. That waits for a second at most.

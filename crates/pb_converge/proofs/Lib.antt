@@ -5,3 +5,5 @@ pub mod LookLemmas
 pub mod FallLemmas
 pub mod LimitLemmas
 pub mod RestLemmas
+pub mod MachineLemmas
+pub mod RecurrenceLemmas

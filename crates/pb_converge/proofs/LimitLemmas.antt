@@ -124,6 +124,6 @@ rested-done most events Given old new h = ([], h.1)
 rested-done most events (Settled ticks) old new h =
     let d = driven-rounds ticks h.3.count old new h.3.rounds in
     (d.0.gone.events, d.0.gone.done)
-rested-done most events (Unsettled ticks) old new h =
-    let d = driven-rounds ticks h.2.count old new h.2.rounds in
+rested-done most events (Unsettled ticks) old new (by_protocol, at, rounds, gone, at_end, unsettled) =
+    let d = driven-rounds rounds gone.count old new gone.rounds in
     (d.0.gone.events, d.0.gone.done)

@@ -3,7 +3,7 @@ use Rattle.std.proofs.Common.{◌≡◌, ◌+◌, ◌*◌, ◌⊎◌, inl, inr, 
 use Rattle.std.proofs.Common.{sym, subst, arith}
 use Rattle.std.proofs.lemmas.Bool.{cases_eq}
 use Rattle.pb_lan.specs.Events.{names_something}
-use Rattle.pb_lan.specs.Plans.{IsSound}
+use Rattle.pb_lan.specs.Plans.{IsNumber, IsSound}
 use Rattle.pb_lan.specs.declared.event.Event.{Event}
 use Rattle.pb_lan.specs.declared.event.Event.TheVariants.{Poll, Feed, Deliver, Receive, Transmit, Tick, Admin, Take}
 use Rattle.pb_lan.specs.declared.event.Event.TheVariants.{Put}
@@ -12,16 +12,44 @@ use Rattle.pb_lan.specs.declared.step.Place.{Place}
 use Rattle.pb_net.proofs.Records.{known_number, known_lane}
 use Rattle.pb_net.proofs.SpotLemmas.{bridge_there, port_there}
 use Rattle.pb_net.specs.Answers.{NetView, IsAnswer}
+use Rattle.pb_net.specs.Dues.{IsQuiet}
 use Rattle.pb_net.specs.declared.did.Did.TheVariants.{Done}
 use Rattle.pb_converge.proofs.DriveLemmas.{gone-none, gone-nothing, gone-one, gone-append}
 use Rattle.pb_converge.specs.Drives.{is_onward, HaveGone, IsNotDue, HasDrained}
-use Rattle.pb_converge.specs.Sweeps.{HaveTried, IsThis, IsAtOneOf, IsAnywhere}
+use Rattle.pb_converge.specs.Sweeps.{HaveTried, IsThis, IsAtLane, IsAtOneOf, IsAtPorts, IsAnywhere}
 
 -- an event that was tried and is not due
 still : (event : Event) (old new : NetView) → new ≡ old → IsNotDue old event → HaveTried (IsThis event) 0 old new
 still event old new e not = record {
   gone = gone-none is_onward old new e;
   none_due = λ z other is. subst (λ x. IsNotDue new x) (sym is) (subst (λ v. IsNotDue v event) (sym e) not);
+}
+
+-- nothing is due at the ports of a bridge, or at a lane
+quiet_port : (bridge : ℕ) (net : NetView) → ((port : ℕ) → IsNumber port 16 → IsQuiet net (Receive bridge port))
+    → ((port : ℕ) → IsNumber port 16 → IsQuiet net (Transmit bridge port)) → (event : Event) → IsAtPorts bridge event
+    → IsNotDue net event
+quiet_port bridge net receives transmits event (n, range, inl is) = subst (λ x. IsNotDue net x) (sym is) (receives n range)
+quiet_port bridge net receives transmits event (n, range, inr is) = subst (λ x. IsNotDue net x) (sym is) (transmits n range)
+
+quiet_lane : (lane : ℕ) (net : NetView) → IsQuiet net (Take lane) → IsQuiet net (Put lane) → (event : Event)
+    → IsAtLane lane event → IsNotDue net event
+quiet_lane lane net take put event (inl is) = subst (λ x. IsNotDue net x) (sym is) take
+quiet_lane lane net take put event (inr is) = subst (λ x. IsNotDue net x) (sym is) put
+
+pub tried-quiet_ports : (bridge : ℕ) (net : NetView)
+    → ((port : ℕ) → IsNumber port 16 → IsQuiet net (Receive bridge port))
+    → ((port : ℕ) → IsNumber port 16 → IsQuiet net (Transmit bridge port)) → HaveTried (IsAtPorts bridge) 0 net net
+tried-quiet_ports bridge net receives transmits = record {
+  gone = gone-none is_onward net net refl;
+  none_due = λ z event is. quiet_port bridge net receives transmits event is;
+}
+
+pub tried-quiet_lane : (lane : ℕ) (net : NetView) → IsQuiet net (Take lane) → IsQuiet net (Put lane)
+    → HaveTried (IsAtLane lane) 0 net net
+tried-quiet_lane lane net take put = record {
+  gone = gone-none is_onward net net refl;
+  none_due = λ z event is. quiet_lane lane net take put event is;
 }
 
 pub tried-done : (event : Event) (place : Place) (old new : NetView) → is_onward event ≡ true

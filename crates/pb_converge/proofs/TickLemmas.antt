@@ -158,6 +158,10 @@ failed-later ticks most a fault old mid new rs within f =
       reason = reason-later fault most a d.0.count more.count new within d.1 f.reason;
     }
 
+-- an error before the first event
+pub failed-first : (most : ℕ) (net : NetView) → HasFailed most Memory net net
+failed-first most net = record { driven = driven-none net net refl; reason = tt }
+
 pub failed-look : (ticks most a b : ℕ) (old mid new : NetView) → AreRounds ticks a old mid → IsRound b mid new
     → HasFailed most Memory old new
 failed-look ticks most a b old mid new rs r =

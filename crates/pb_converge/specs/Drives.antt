@@ -1,15 +1,16 @@
 -- A network that is driven by events alone.
-use Rattle.std.specs.Prelude.{◌≡◌, ◌≤◌, ◌<◌, ◌⊎◌, ◌+◌, ◌-◌, ◌&&◌, ℕ, zero, suc, Bool, true, false, List, [], ◌∷◌, map, length, Some, Ok}
-use Rattle.std.specs.List.{AllByRecursion}
+use Rattle.std.specs.Prelude.{◌≡◌, ◌≤◌, ◌<◌, ◌⊎◌, ◌+◌, ◌-◌, ◌*◌, ◌&&◌, ℕ, zero, suc, ◌==◌, Bool, true, false, List, [], ◌∷◌, map, length, Some, Ok}
+use Rattle.std.specs.List.{AllByRecursion, list_all}
 use Rattle.pb_lan.specs.Events.{place_of, names_something, is_idle, is_at_limit}
 use Rattle.pb_lan.specs.Numbering.{numbers_from}
 use Rattle.pb_lan.specs.declared.event.Event.{Event}
 use Rattle.pb_lan.specs.declared.event.Event.TheVariants.{Poll, Tick, Admin}
+use Rattle.pb_lan.specs.declared.plan.LinkPlan.{LinkPlan}
 use Rattle.pb_lan.specs.declared.plan.Spanning.{Spanning}
 use Rattle.pb_lan.specs.declared.plan.Spanning.TheVariants.{Fixed, Rstp}
 use Rattle.pb_net.specs.Answers.{NetView, IsAnswer}
 use Rattle.pb_net.specs.declared.did.Did.TheVariants.{Done}
-use Rattle.pb_relay.specs.Settled.{TellsSettled}
+use Rattle.pb_relay.specs.Settled.{TellsSettled, machines_in}
 use Rattle.pb_converge.specs.Enough.{HasEnoughMemory}
 use Rattle.pb_converge.specs.declared.fault.DriveFault.{DriveFault}
 use Rattle.pb_converge.specs.declared.fault.DriveFault.TheVariants.{Memory, Steps, Events}
@@ -152,12 +153,44 @@ abbrev pub WasUnsettled : ℕ → NetView → NetView → Type 0
 WasUnsettled ticks old new =
     (before : Bool) × (after : Bool) × HasLooked (ticks - 1) before after old new × ((before && after) ≡ false)
 
+-- the link loses no frame
+abbrev pub is_lossless : LinkPlan → Bool
+is_lossless link = length link.lost_ab == 0 && length link.lost_ba == 0
+
+-- this many rounds, with any number of events
+abbrev pub HaveGoneRounds : ℕ → NetView → NetView → Type 0
+HaveGoneRounds rounds old new = (count : ℕ) × AreRounds rounds count old new
+
+-- The network only counts its steps, no link loses frames, and in these rounds the machines of the bridges came back to
+-- what they had been `period` rounds before. From the last round to the limit it is a whole number of such periods.
+pub record HasRecurred (most rounds : ℕ) (old new : NetView) : Type 0 where
+  pub counted : old.is_kept ≡ false
+  pub lossless : list_all is_lossless old.plan.links ≡ true
+  pub first : ℕ
+  pub period : ℕ
+  pub since : ℕ
+  pub whole : ℕ
+  pub earlier : NetView
+  pub later : NetView
+  pub before : HaveGoneRounds first old earlier
+  pub between : HaveGoneRounds period earlier later
+  pub after : HaveGoneRounds since later new
+  pub number : first + period + since ≡ rounds
+  pub some : 0 < period
+  pub same : machines_in earlier.plan earlier.rec ≡ machines_in later.plan later.rec
+  pub rest : rounds + whole * period ≡ most
+
+-- the limit of ticks is reached, or the machines recur and would be the same when it is reached
+abbrev pub IsAtEnd : ℕ → ℕ → NetView → NetView → Type 0
+IsAtEnd most rounds old new = (rounds ≡ most) ⊎ HasRecurred most rounds old new
+
 -- the plan gives the states and nothing was done; or the bridges were settled after the last two rounds, within the
--- limits; or the limit of ticks is reached, and they were not settled after two rounds in a row
+-- limits; or the limit of ticks is reached or need not be, and they were not settled after two rounds in a row
 abbrev pub HasRested : ℕ → ℕ → Rest → NetView → NetView → Type 0
 HasRested most events Given old new = (old.plan.spanning ≡ Fixed) × (new ≡ old)
 HasRested most events (Settled ticks) old new =
     (old.plan.spanning ≡ Rstp) × (2 ≤ ticks) × (ticks ≤ most) × HasGoneRound ticks events old new
     × TellsSettled new.plan new.rec (Some true) × HasLooked (ticks - 1) true true old new
 HasRested most events (Unsettled ticks) old new =
-    (old.plan.spanning ≡ Rstp) × (ticks ≡ most) × HasGoneRound ticks events old new × (2 ≤ ticks → WasUnsettled ticks old new)
+    (old.plan.spanning ≡ Rstp) × (ticks ≡ most)
+    × (rounds : ℕ) × HasGoneRound rounds events old new × IsAtEnd most rounds old new × (2 ≤ rounds → WasUnsettled rounds old new)

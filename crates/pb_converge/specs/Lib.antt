@@ -1,5 +1,6 @@
 pub mod Enough
 pub mod Drives
+pub mod Recurrence
 pub mod Sweeps
 pub mod Falls
 pub mod Suggestions

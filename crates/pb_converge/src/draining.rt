@@ -66,6 +66,9 @@ fn at_lane(net: &mut Net, lane: u8, left: u64) -> Result<u64, DriveFault>
     ensures ok { IfOk result (λ done. HaveTried (IsAtLane lane) done net.old net.new) }
     ensures err { IfErr result (λ fault. HasStopped left fault net.old net.new) }
 {
+    if net.is_lane_quiet(lane) {
+        return Ok(0);
+    }
     let done = attempt(net, Event::Take { lane }, left)?;
     let more = attempt(net, Event::Put { lane }, left - done)?;
     Ok(done + more)
@@ -93,6 +96,9 @@ fn sweep_ports(net: &mut Net, bridge: u8, left: u64) -> Result<u64, DriveFault>
     ensures ok { IfOk result (λ done. HaveTried (IsAtPorts bridge) done net.old net.new) }
     ensures err { IfErr result (λ fault. HasStopped left fault net.old net.new) }
 {
+    if net.is_bridge_quiet(bridge) {
+        return Ok(0);
+    }
     let mut done = 0;
     for place in 0..16u8 {
         done += at_port(net, bridge, place + 1, left - done)?;

@@ -7,6 +7,7 @@ mod falling;
 mod fault;
 mod limit;
 mod nets;
+mod recurrence;
 mod rest;
 mod resting;
 mod settling;

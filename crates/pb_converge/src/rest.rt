@@ -7,7 +7,7 @@ pub enum Rest {
     Given,
     /// The bridges were settled after two rounds in a row, the second after this many ticks of each bridge.
     Settled(u32),
-    /// Each bridge ticked as often as was allowed, this many times, and they were not settled after two rounds in a
-    /// row: after the last round or the one before it they were not, or there was at most one round.
+    /// The bridges were not settled after two rounds in a row within the ticks that were allowed, this many of each:
+    /// each bridge ticked so often, or their machines recurred before.
     Unsettled(u32),
 }

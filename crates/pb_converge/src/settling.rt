@@ -13,6 +13,7 @@ ghost use Rattle.pb_converge.specs.Enough.{HasEnoughMemory};
 use crate::draining::drain;
 use crate::fault::DriveFault;
 use crate::limit::fault_in;
+use crate::recurrence::Watch;
 use crate::rest::Rest;
 use pb_lan::{Event, Plan, Spanning};
 use pb_net::{Net, NetFault};
@@ -101,13 +102,18 @@ fn rounds(
 {
     let mut was_settled = false;
     let mut done = 0;
+    let mut watch = Watch::new(alloc, net, plan, most)?;
     for ticks in 0..most {
+        if ticks == watch.end {
+            return Ok(Rest::Unsettled(most));
+        }
         done += round(net, plan, events - done)?;
         let is_settled = look(alloc, net)?;
         if was_settled && is_settled {
             return Ok(Rest::Settled(ticks + 1));
         }
         was_settled = is_settled;
+        watch.note(alloc, net, ticks + 1)?;
     }
     Ok(Rest::Unsettled(most))
 }
@@ -156,9 +162,11 @@ pub fn stand(net: &mut Net, plan: &Plan, ticks: u32, events: u64) -> Result<(), 
 /// Drives the bridges of a network to convergence (IEEE 802.1D-2004 clause 17).
 ///
 /// In each round every bridge ticks once, in the plan's order, and [`drain`] performs all that is due then. The rounds
-/// end when the bridges are settled after two in a row, or after `most` of them. The result is `Given`, and nothing is
-/// done, if the plan gives the states of the ports. It is `Unsettled` for each `most` below 2, and else only if the
-/// bridges were not settled after the last round or after the one before it.
+/// end when the bridges are settled after two in a row, or after `most` of them. They end earlier if the network only
+/// counts its steps, no link loses frames, the machines of the bridges are again what they were some rounds before, and a
+/// whole number of such periods is left: after `most` rounds the machines would be the same. The result is `Given`, and nothing is done, if the plan
+/// gives the states of the ports. It is `Unsettled` for each `most` below 2, and else only if the bridges were not
+/// settled after the last round or after the one before it.
 ///
 /// # Errors
 ///

@@ -1,13 +1,13 @@
 -- The links on the paths between the customer ports of a service, from marks.
-use Rattle.std.proofs.Common.{◌≡◌, ◌⊎◌, ◌↔◌, inl, inr, ◌<◌, ◌≤◌, ◌+◌, ℕ, zero, suc, Bool, true, false, ◌&&◌, ◌||◌}
-use Rattle.std.proofs.Common.{◌==◌, Some}
+use Rattle.std.proofs.Common.{◌≡◌, ◌≢◌, ◌⊎◌, ◌↔◌, inl, inr, ◌<◌, ◌≤◌, ◌+◌, ℕ, zero, suc, Bool, true, false, ◌&&◌, ◌||◌}
+use Rattle.std.proofs.Common.{◌==◌, nat_le, Some}
 use Rattle.std.proofs.Common.{List, [], ◌∷◌, ◌++◌, length, slice_get, cond, refl, sym, ap, subst, ◌∙◌, arith}
-use Rattle.std.specs.List.{list_any}
-use Rattle.std.proofs.lemmas.Bool.{cases_lt, eqb-true, eq-eqb}
+use Rattle.std.proofs.lemmas.Bool.{cases_lt, eqb-true, eq-eqb, leb-true, le-leb}
 use Rattle.std.proofs.lemmas.List.Folds.{list_any-append}
 use Rattle.std.proofs.lemmas.Option.{slice_get_within}
 use Rattle.pb_forest.specs.ServiceVids.{vid_numbered}
-use Rattle.pb_frame.proofs.Lists.{All-at, All-placed, and-left, and-right, list_any-at, list_any-found, Some-injective}
+use Rattle.pb_frame.proofs.Counting.{any-count, count-any}
+use Rattle.pb_frame.proofs.Lists.{All-at, and-left, and-right, list_any-at, Some-injective, true-false}
 use Rattle.pb_joins.proofs.JoinLemmas.{end_number}
 use Rattle.pb_joins.specs.Joins.{TellsJoined, mark_at}
 use Rattle.pb_lan.proofs.Numbers.{numbered-place}
@@ -19,18 +19,12 @@ use Rattle.pb_lan.specs.declared.plan.LinkPlan.{LinkPlan}
 use Rattle.pb_lan.specs.declared.plan.CustomerPlan.{CustomerPlan}
 use Rattle.pb_lan.specs.declared.shape.Shape.{Shape}
 use Rattle.pb_draw_layout.specs.Facts.{is_among}
-use Rattle.pb_draw_layout.specs.Paths.{is_other, is_site_at, has_site_at, ReachesSite, IsOnPath, AreLit}
+use Rattle.pb_draw_layout.specs.Paths.{is_other, is_site_at, sites_at, needed_sites, ReachesSite, IsOnPath, AreLit}
+use Rattle.pb_draw_layout.proofs.PairLemmas.{any_where, two_of, two_count}
 
 -- both tests pass
 and-both : (a b : Bool) → a ≡ true → b ≡ true → (a && b) ≡ true
 and-both a b e f = cc
-
--- an entry at which the test passes
-any_where : {X : Type 0} (test : X → Bool) (xs : List X) → list_any test xs ≡ true
-    → (k : ℕ) × (x : X) × (slice_get xs k ≡ Some x) × (test x ≡ true)
-any_where test xs h =
-    let found = list_any-found (λ x. (k : ℕ) × (slice_get xs k ≡ Some x)) test xs h (All-placed xs) in
-    (found.1.0, found.0, found.1.1, found.2)
 
 -- a customer port of a sound plan is at a bridge 1 to 32
 customer_number : (plan : Plan) → IsSound plan → (k : ℕ) (c : CustomerPlan) → slice_get plan.customers k ≡ Some c
@@ -49,58 +43,157 @@ ends_within plan sound number link at =
     let (k, _, there) = numbered-place plan.links number link at in
     end_number plan sound k link there
 
+-- a customer port at a bridge with a mark
+marked : (marks : List ℕ) (service mark : ℕ) (c : CustomerPlan) → is_site_at marks service mark c ≡ true
+    → mark_at marks c.bridge ≡ mark
+marked marks service mark c of_c = eqb-true (mark_at marks c.bridge) mark
+    (and-right (c.service == service) (mark_at marks c.bridge == mark) of_c)
+
 -- a customer port with the mark of a bridge is joined to it
-reaches_from : (plan : Plan) (test : LinkPlan → Bool) (marks : List ℕ) (service bridge : ℕ) → IsSound plan
-    → IsNumber bridge 32 → TellsJoined plan test marks → has_site_at plan marks service (mark_at marks bridge) ≡ true
-    → ReachesSite plan test service bridge
-reaches_from plan test marks service bridge sound in_b tells h =
-    let (k, c, at_c, of_c) = any_where (is_site_at marks service (mark_at marks bridge)) plan.customers h in
-    record {
-      number = suc k;
-      site = c;
-      planned = at_c;
-      served = eqb-true c.service service
-          (and-left (c.service == service) (mark_at marks c.bridge == mark_at marks bridge) of_c);
-      joined = (tells bridge c.bridge in_b (customer_number plan sound k c at_c)).0
-          (sym (eqb-true (mark_at marks c.bridge) (mark_at marks bridge) (and-right (c.service == service)
-          (mark_at marks c.bridge == mark_at marks bridge) of_c)));
-    }
+abbrev reaches_from : (plan : Plan) (test : LinkPlan → Bool) (marks : List ℕ) (service bridge k : ℕ) (c : CustomerPlan)
+    → IsSound plan → IsNumber bridge 32 → TellsJoined plan test marks → slice_get plan.customers k ≡ Some c
+    → is_site_at marks service (mark_at marks bridge) c ≡ true → ReachesSite plan test service bridge
+reaches_from plan test marks service bridge k c sound in_b tells at of_c = record {
+  number = suc k;
+  site = c;
+  planned = at;
+  served = eqb-true c.service service
+      (and-left (c.service == service) (mark_at marks c.bridge == mark_at marks bridge) of_c);
+  joined = (tells bridge c.bridge in_b (customer_number plan sound k c at)).0 (sym (marked marks service
+      (mark_at marks bridge) c of_c));
+}
 
 -- a customer port that is joined to a bridge has its mark
 reaches_to : (plan : Plan) (test : LinkPlan → Bool) (marks : List ℕ) (service bridge : ℕ) → IsSound plan
-    → IsNumber bridge 32 → TellsJoined plan test marks → ReachesSite plan test service bridge
-    → has_site_at plan marks service (mark_at marks bridge) ≡ true
+    → IsNumber bridge 32 → TellsJoined plan test marks → (r : ReachesSite plan test service bridge)
+    → (k : ℕ) × (r.number ≡ suc k) × (slice_get plan.customers k ≡ Some r.site)
+    × (is_site_at marks service (mark_at marks bridge) r.site ≡ true)
 reaches_to plan test marks service bridge sound in_b tells r =
-    let (k, _, at_c) = numbered-place plan.customers r.number r.site r.planned in
-    let in_c = customer_number plan sound k r.site at_c in
-    list_any-at (is_site_at marks service (mark_at marks bridge)) plan.customers k r.site at_c
-    (and-both (r.site.service == service) (mark_at marks r.site.bridge == mark_at marks bridge)
-    (eq-eqb r.site.service service r.served)
-    (eq-eqb (mark_at marks r.site.bridge) (mark_at marks bridge)
-    (sym ((tells bridge r.site.bridge in_b in_c).1 r.joined))))
+    let (k, is, at_c) = numbered-place plan.customers r.number r.site r.planned in
+    let in_c = customer_number plan sound k r.site at_c in (
+      k,
+      is,
+      at_c,
+      and-both (r.site.service == service) (mark_at marks r.site.bridge == mark_at marks bridge)
+          (eq-eqb r.site.service service r.served)
+          (eq-eqb (mark_at marks r.site.bridge) (mark_at marks bridge)
+          (sym ((tells bridge r.site.bridge in_b in_c).1 r.joined))),
+    )
 
--- a link is on a path if and only if it is active and the marks of both its bridges are those of customer ports
-pub path_iff : (plan : Plan) (shape : Shape) (service : ℕ) (link : LinkPlan) (marks : List ℕ) (active a b : Bool)
+-- what is asked of the customer ports at both ends of a link
+record AreReached (plan : Plan) (test : LinkPlan → Bool) (service : ℕ) (link : LinkPlan) : Type 0 where
+  pub a : ReachesSite plan test service link.a.bridge
+  pub b : ReachesSite plan test service link.b.bridge
+  pub two : a.number ≢ b.number
+
+-- customer ports at bridges with different marks are different ones
+differ : (plan : Plan) (marks : List ℕ) (service m n i j : ℕ) (x y : CustomerPlan) → (m == n) ≡ false
+    → slice_get plan.customers i ≡ Some x → slice_get plan.customers j ≡ Some y → is_site_at marks service m x ≡ true
+    → is_site_at marks service n y ≡ true → i ≡ j → ⊥
+differ plan marks service m n i j x y e at_x at_y of_x of_y same =
+    let one = Some-injective (sym at_x ∙ ap (slice_get plan.customers) same ∙ at_y) in
+    let marked_n = subst (λ c. is_site_at marks service n c ≡ true) (sym one) of_y in
+    true-false (m == n) (eq-eqb m n (sym (marked marks service m x of_x) ∙ marked marks service n x marked_n)) e
+
+-- enough customer ports are at the marks of the link's bridges: two different ones are reached
+reached_from : (plan : Plan) (test : LinkPlan → Bool) (marks : List ℕ) (service : ℕ) (link : LinkPlan) → IsSound plan
+    → IsNumber link.a.bridge 32 → IsNumber link.b.bridge 32 → TellsJoined plan test marks
+    → needed_sites (mark_at marks link.a.bridge) (mark_at marks link.b.bridge)
+    ≤ sites_at plan marks service (mark_at marks link.a.bridge)
+    → needed_sites (mark_at marks link.a.bridge) (mark_at marks link.b.bridge)
+    ≤ sites_at plan marks service (mark_at marks link.b.bridge)
+    → AreReached plan test service link
+reached_from plan test marks service link sound in_a in_b tells many_a many_b =
+    let m = mark_at marks link.a.bridge in
+    let n = mark_at marks link.b.bridge in
+    elim (m == n) as (λ t. (m == n) ≡ t → cond t 2 1 ≤ sites_at plan marks service m
+    → cond t 2 1 ≤ sites_at plan marks service n → AreReached plan test service link) [
+      | true ↦ λ e p q.
+          let two = two_of (is_site_at marks service m) plan.customers p in
+          record {
+            a = reaches_from plan test marks service link.a.bridge two.i two.x sound in_a tells two.x_at
+                two.x_passes;
+            b = reaches_from plan test marks service link.b.bridge two.j two.y sound in_b tells two.y_at
+                (subst (λ k. is_site_at marks service k two.y ≡ true) (eqb-true m n e) two.y_passes);
+            two = λ same. let less = two.below in absurd (omega (arith, same, less));
+          }
+      | false ↦ λ e p q.
+          let (i, x, at_x, of_x) = any_where (is_site_at marks service m) plan.customers
+          (any-count (is_site_at marks service m) plan.customers p) in
+          let (j, y, at_y, of_y) = any_where (is_site_at marks service n) plan.customers
+          (any-count (is_site_at marks service n) plan.customers q) in
+          record {
+            a = reaches_from plan test marks service link.a.bridge i x sound in_a tells at_x of_x;
+            b = reaches_from plan test marks service link.b.bridge j y sound in_b tells at_y of_y;
+            two = λ same. differ plan marks service m n i j x y e at_x at_y of_x of_y (omega (arith, same));
+          }
+    ] refl many_a many_b
+
+-- two different customer ports are reached: enough are at the marks of the link's bridges
+reached_to : (plan : Plan) (test : LinkPlan → Bool) (marks : List ℕ) (service : ℕ) (link : LinkPlan) → IsSound plan
+    → IsNumber link.a.bridge 32 → IsNumber link.b.bridge 32 → TellsJoined plan test marks
+    → AreReached plan test service link
+    → (needed_sites (mark_at marks link.a.bridge) (mark_at marks link.b.bridge)
+    ≤ sites_at plan marks service (mark_at marks link.a.bridge))
+    × (needed_sites (mark_at marks link.a.bridge) (mark_at marks link.b.bridge)
+    ≤ sites_at plan marks service (mark_at marks link.b.bridge))
+reached_to plan test marks service link sound in_a in_b tells r =
+    let m = mark_at marks link.a.bridge in
+    let n = mark_at marks link.b.bridge in
+    let (i, is_i, at_x, of_x) = reaches_to plan test marks service link.a.bridge sound in_a tells r.a in
+    let (j, is_j, at_y, of_y) = reaches_to plan test marks service link.b.bridge sound in_b tells r.b in
+    elim (m == n) as (λ t. (m == n) ≡ t → (cond t 2 1 ≤ sites_at plan marks service m)
+    × (cond t 2 1 ≤ sites_at plan marks service n)) [
+      | true ↦ λ e.
+          let same = eqb-true m n e in
+          let of_y' = subst (λ k. is_site_at marks service k r.b.site ≡ true) (sym same) of_y in
+          let two = two_count (is_site_at marks service m) plan.customers i j r.a.site r.b.site at_x at_y of_x of_y'
+          (λ e. r.two (is_i ∙ ap suc e ∙ sym is_j)) in
+          (two, subst (λ k. 2 ≤ sites_at plan marks service k) same two)
+      | false ↦ λ e. (
+        count-any (is_site_at marks service m) plan.customers
+            (list_any-at (is_site_at marks service m) plan.customers i r.a.site at_x of_x),
+        count-any (is_site_at marks service n) plan.customers
+            (list_any-at (is_site_at marks service n) plan.customers j r.b.site at_y of_y),
+      )
+    ] refl
+
+-- a link is on a path if and only if it is active and enough customer ports are at the marks of both its bridges
+pub path_iff : (plan : Plan) (shape : Shape) (service : ℕ) (link : LinkPlan) (marks : List ℕ) (active : Bool)
+    (a b needed : ℕ)
     → IsSound plan → IsNumber link.a.bridge 32 → IsNumber link.b.bridge 32
     → TellsJoined plan (is_other plan shape (vid_numbered plan service) link) marks
     → active ≡ is_active plan shape (vid_numbered plan service) link
-    → a ≡ has_site_at plan marks service (mark_at marks link.a.bridge)
-    → b ≡ has_site_at plan marks service (mark_at marks link.b.bridge)
-    → (((active && a) && b) ≡ true) ↔ IsOnPath plan shape service link
-path_iff plan shape service link marks active a b sound in_a in_b tells is_active_so has_a has_b =
+    → a ≡ sites_at plan marks service (mark_at marks link.a.bridge)
+    → b ≡ sites_at plan marks service (mark_at marks link.b.bridge)
+    → needed ≡ needed_sites (mark_at marks link.a.bridge) (mark_at marks link.b.bridge)
+    → (((active && nat_le needed a) && nat_le needed b) ≡ true) ↔ IsOnPath plan shape service link
+path_iff plan shape service link marks active a b needed sound in_a in_b tells is_active_so many_a many_b needs =
     let test = is_other plan shape (vid_numbered plan service) link in (
       λ h.
-          let first = and-left (active && a) b h in record {
-            active = sym is_active_so ∙ and-left active a first;
-            a = reaches_from plan test marks service link.a.bridge sound in_a tells
-                (sym has_a ∙ and-right active a first);
-            b = reaches_from plan test marks service link.b.bridge sound in_b tells
-                (sym has_b ∙ and-right (active && a) b h);
+          let first = and-left (active && nat_le needed a) (nat_le needed b) h in
+          let enough_a = leb-true needed a (and-right active (nat_le needed a) first) in
+          let enough_b = leb-true needed b (and-right (active && nat_le needed a) (nat_le needed b) h) in
+          let r = reached_from plan test marks service link sound in_a in_b tells
+          (subst (λ k. k ≤ sites_at plan marks service (mark_at marks link.a.bridge)) needs
+          (subst (λ k. needed ≤ k) many_a enough_a))
+          (subst (λ k. k ≤ sites_at plan marks service (mark_at marks link.b.bridge)) needs
+          (subst (λ k. needed ≤ k) many_b enough_b)) in
+          record {
+            active = sym is_active_so ∙ and-left active (nat_le needed a) first;
+            a = r.a;
+            b = r.b;
+            two = r.two;
           },
-      λ p. and-both (active && a) b
-          (and-both active a (is_active_so ∙ p.active)
-          (has_a ∙ reaches_to plan test marks service link.a.bridge sound in_a tells p.a))
-          (has_b ∙ reaches_to plan test marks service link.b.bridge sound in_b tells p.b),
+      λ p.
+          let r = reached_to plan test marks service link sound in_a in_b tells
+          (record { a = p.a; b = p.b; two = p.two }) in
+          and-both (active && nat_le needed a) (nat_le needed b)
+          (and-both active (nat_le needed a) (is_active_so ∙ p.active)
+          (le-leb needed a (subst (λ k. needed ≤ k) (sym many_a) (subst (λ k. k
+          ≤ sites_at plan marks service (mark_at marks link.a.bridge)) (sym needs) r.0))))
+          (le-leb needed b (subst (λ k. needed ≤ k) (sym many_b) (subst (λ k. k
+          ≤ sites_at plan marks service (mark_at marks link.b.bridge)) (sym needs) r.1))),
     )
 
 -- of the first links those are lit that are on paths, and no others

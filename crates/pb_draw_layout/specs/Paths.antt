@@ -1,7 +1,6 @@
 -- The links on the paths between the customer ports of a service.
-use Rattle.std.specs.Prelude.{◌≡◌, ◌↔◌, ℕ, Bool, true, not, List, Some, ◌==◌, ◌&&◌, unwrap_or}
+use Rattle.std.specs.Prelude.{◌≡◌, ◌≢◌, ◌↔◌, ℕ, Bool, true, not, List, Some, ◌==◌, ◌&&◌, if◌then◌else◌, unwrap_or, count_by}
 use Rattle.std.specs.declared.option.Option.{Option}
-use Rattle.std.specs.List.{list_any}
 use Rattle.pb_forest.specs.ServiceVids.{vid_numbered}
 use Rattle.pb_frame.specs.Admission.{same}
 use Rattle.pb_joins.specs.Joins.{AreJoined, TellsJoined, mark_at}
@@ -22,9 +21,13 @@ is_other plan shape vid link other = is_active plan shape vid other && not (same
 abbrev pub is_site_at : List ℕ → ℕ → ℕ → CustomerPlan → Bool
 is_site_at marks service mark c = c.service == service && mark_at marks c.bridge == mark
 
--- some customer port is
-abbrev pub has_site_at : Plan → List ℕ → ℕ → ℕ → Bool
-has_site_at plan marks service mark = list_any (is_site_at marks service mark) plan.customers
+-- how many customer ports are
+abbrev pub sites_at : Plan → List ℕ → ℕ → ℕ → ℕ
+sites_at plan marks service mark = count_by (is_site_at marks service mark) plan.customers
+
+-- how many customer ports have to be at the marks of a link's two bridges: two if the marks are equal
+abbrev pub needed_sites : ℕ → ℕ → ℕ
+needed_sites a b = if a == b then 2 else 1
 
 -- links that pass the test join the bridge to a customer port of the service
 pub record ReachesSite (plan : Plan) (test : LinkPlan → Bool) (service bridge : ℕ) : Type 0 where
@@ -34,12 +37,13 @@ pub record ReachesSite (plan : Plan) (test : LinkPlan → Bool) (service bridge 
   pub served : site.service ≡ service
   pub joined : AreJoined plan test bridge site.bridge
 
--- a link is on a path between two customer ports of the service if it is active, and other active links join each of its
--- bridges to one
+-- a link is on a path between two customer ports of the service if it is active, and other active links join one of its
+-- bridges to the one port and the other bridge to the other port
 pub record IsOnPath (plan : Plan) (shape : Shape) (service : ℕ) (link : LinkPlan) : Type 0 where
   pub active : is_active plan shape (vid_numbered plan service) link ≡ true
   pub a : ReachesSite plan (is_other plan shape (vid_numbered plan service) link) service link.a.bridge
   pub b : ReachesSite plan (is_other plan shape (vid_numbered plan service) link) service link.b.bridge
+  pub two : a.number ≢ b.number
 
 -- the numbers are those of the links on such paths
 abbrev pub AreLit : Plan → Shape → ℕ → List ℕ → Type 0

@@ -7,7 +7,7 @@ ghost use Rattle.pb_lan.specs.Numbering.{numbered};
 ghost use Rattle.pb_lan.specs.Plans.{IsNumber, IsSound};
 ghost use Rattle.pb_lan.specs.Shapes.{are_ends_forwarding, is_active};
 ghost use Rattle.pb_lan.specs.declared.plan.LinkPlan.{LinkPlan};
-ghost use Rattle.pb_draw_layout.specs.Paths.{is_other, is_site_at, has_site_at, IsOnPath, AreLit, AreFound};
+ghost use Rattle.pb_draw_layout.specs.Paths.{is_other, is_site_at, sites_at, needed_sites, IsOnPath, AreLit, AreFound};
 
 use pb_forest::{are_ends_forwarding, is_active, numbered, vid_numbered};
 use pb_frame::{Memory, Seq};
@@ -71,14 +71,23 @@ fn is_site_at(marks: &[u8; 32], service: u8, mark: u8, site: &CustomerPlan) -> b
     site.service == service && mark_at(marks, site.bridge) == mark
 }
 
-/// Checks whether a customer port of a service is at a bridge with a mark.
-fn has_site_at(plan: &Plan, marks: &[u8; 32], service: u8, mark: u8) -> bool
-    ensures { result ≡ has_site_at plan.now marks.now service mark }
+/// Returns the number of customer ports of a service at bridges with a mark.
+fn sites_at(plan: &Plan, marks: &[u8; 32], service: u8, mark: u8) -> usize
+    ensures { result ≡ sites_at plan.now marks.now service mark }
 {
     plan.customers
         .as_slice()
         .iter()
-        .any(|site| is_site_at(marks, service, mark, site))
+        .filter(|site| is_site_at(marks, service, mark, site))
+        .count()
+}
+
+/// Returns how many customer ports have to be at the marks of a link's two bridges: two if the marks are equal, else
+/// one at each.
+fn needed_sites(a: u8, b: u8) -> usize
+    ensures { result ≡ needed_sites a b }
+{
+    if a == b { 2 } else { 1 }
 }
 
 /// Checks whether all three hold.
@@ -89,7 +98,7 @@ fn are_all(one: bool, two: bool, three: bool) -> bool
 }
 
 /// Checks whether a link is on a path between two customer ports of a service: it is active, and other active links
-/// join each of its bridges to one.
+/// join one of its bridges to the one port and the other bridge to the other port.
 fn is_between(plan: &Plan, shape: &Shape, service: u8, link: &LinkPlan) -> bool
     requires sound { IsSound plan.now }
     requires a { IsNumber link.now.a.bridge 32 }
@@ -101,9 +110,10 @@ fn is_between(plan: &Plan, shape: &Shape, service: u8, link: &LinkPlan) -> bool
     let active = is_active(plan, shape, vid, link);
     let a_mark = mark_at(&marks, link.a.bridge);
     let b_mark = mark_at(&marks, link.b.bridge);
-    let a = has_site_at(plan, &marks, service, a_mark);
-    let b = has_site_at(plan, &marks, service, b_mark);
-    are_all(active, a, b)
+    let a = sites_at(plan, &marks, service, a_mark);
+    let b = sites_at(plan, &marks, service, b_mark);
+    let needed = needed_sites(a_mark, b_mark);
+    are_all(active, needed <= a, needed <= b)
 }
 
 /// Checks whether the link with a number is on a path between two customer ports of a service.

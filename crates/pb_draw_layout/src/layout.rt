@@ -1,6 +1,7 @@
 //! The positions of the parts of a network. All lengths are in pixels.
 
 mod columns;
+mod labels;
 mod levels;
 mod order;
 mod routes;
@@ -9,7 +10,7 @@ mod slots;
 mod tracks;
 mod wrap;
 
-use crate::scene::Point;
+use crate::scene::{Point, Rooms};
 use crate::table::Table;
 use columns::{Columns, LETTER, MARGIN, columns_of, text_width};
 use levels::levels_of;
@@ -70,8 +71,17 @@ fn entry_width(plan: &Plan) -> u32 {
     widest.saturating_add(LEGEND_BESIDES).max(SIGN_WIDTH)
 }
 
+/// Returns the right edge of all parts of links and their names.
+fn right_of(stretches: &[Stretch]) -> u32 {
+    let mut right = 0u32;
+    for stretch in stretches {
+        right = right.max(stretch.right);
+    }
+    right
+}
+
 /// Returns the width of the picture.
-fn picture_width(plan: &Plan, columns: &Columns, entry: u32) -> u32 {
+fn picture_width(plan: &Plan, columns: &Columns, stretches: &[Stretch], entry: u32) -> u32 {
     let mut lanes = 0u32;
     for link in plan.links.as_slice() {
         if is_long(&columns.levels, link) {
@@ -81,20 +91,28 @@ fn picture_width(plan: &Plan, columns: &Columns, entry: u32) -> u32 {
     let network = columns.right(plan).saturating_add(lanes);
     network
         .saturating_add(columns.left)
+        .max(right_of(stretches))
         .max(entry.saturating_add(MARGIN))
         .max(LEAST_WIDTH)
 }
 
 /// Computes the positions of the parts of a plan's network, with at most so many bridges in a row.
-fn layout_in_rows(alloc: Global, plan: &Plan, levels: &Table, most: u32) -> Result<Layout, Memory> {
-    let columns = columns_of(plan, wrapped(plan, levels, most));
-    let stretches = stretches(alloc, &columns, plan)?;
-    let rows = rows_of(plan, &columns, stretches.as_slice());
+fn layout_in_rows(
+    alloc: Global,
+    plan: &Plan,
+    rooms: Rooms<'_>,
+    levels: &Table,
+    most: u32,
+) -> Result<Layout, Memory> {
+    let columns = columns_of(plan, wrapped(plan, levels, most), rooms);
+    let stretches = stretches(alloc, &columns, plan, rooms)?;
+    let rows = rows_of(plan, &columns, stretches.as_slice(), rooms);
     let entry = entry_width(plan);
+    let width = picture_width(plan, &columns, stretches.as_slice(), entry);
     Ok(Layout {
         columns,
         rows,
-        width: picture_width(plan, &columns, entry),
+        width,
         entry,
         stretches,
     })
@@ -105,16 +123,21 @@ fn narrower(one: Layout, other: Layout) -> Layout {
     if other.width < one.width { other } else { one }
 }
 
-/// Computes the positions of the parts of a plan's network, with the ports in these states. Wide levels wrap until the
-/// picture fits.
-pub(crate) fn layout_of(alloc: Global, plan: &Plan, shape: &Shape) -> Result<Layout, Memory> {
+/// Computes the positions of the parts of a plan's network, with the ports in these states and with this room under the
+/// name of each link. Wide levels wrap until the picture fits.
+pub(crate) fn layout_of(
+    alloc: Global,
+    plan: &Plan,
+    shape: &Shape,
+    rooms: Rooms<'_>,
+) -> Result<Layout, Memory> {
     let levels = levels_of(plan, shape);
-    let mut layout = layout_in_rows(alloc, plan, &levels, 32)?;
+    let mut layout = layout_in_rows(alloc, plan, rooms, &levels, 32)?;
     for step in 0..MOST_IN_ROW {
         if layout.fits() {
             return Ok(layout);
         }
-        let next = layout_in_rows(alloc, plan, &levels, MOST_IN_ROW - step)?;
+        let next = layout_in_rows(alloc, plan, rooms, &levels, MOST_IN_ROW - step)?;
         layout = narrower(layout, next);
     }
     Ok(layout)

@@ -19,5 +19,6 @@ pub use facts::{
 };
 pub use marks::scene_of;
 pub use scene::{
-    BridgeMark, Key, KeyMark, Lane, LinkMark, Point, PortMark, Route, Scene, ServiceMark,
+    BridgeMark, Key, KeyMark, Lane, LinkMark, Point, PortMark, Room, Rooms, Route, Scene,
+    ServiceMark,
 };

@@ -10,7 +10,7 @@ use crate::facts::{Failures, bridge_facts, link_facts, port_facts, service_facts
 use crate::findings::{Findings, found_in};
 use crate::keys::key_marks;
 use crate::layout::{Layout, layout_of};
-use crate::scene::{BridgeMark, LinkMark, PortMark, Scene, ServiceMark};
+use crate::scene::{BridgeMark, LinkMark, PortMark, Rooms, Scene, ServiceMark};
 use pb_frame::{Memory, Seq};
 use pb_lan::{Plan, Shape};
 use std::alloc::Global;
@@ -47,6 +47,7 @@ fn link_marks(
     failed: &Failures,
     found: &Findings,
     layout: &Layout,
+    rooms: Rooms<'_>,
 ) -> Result<Seq<LinkMark>, Memory>
     requires { IsSound plan.now }
     ensures { IfOk result (λ marks. map (λ m. m.facts) marks
@@ -57,7 +58,7 @@ fn link_marks(
         let number = place as u8 + 1;
         marks.push(LinkMark {
             facts: link_facts(plan, shape, failed, found, number),
-            route: layout.route(plan, number),
+            route: layout.route(plan, rooms, number),
         })?;
     }
     Ok(Seq::from_vec(marks))
@@ -120,8 +121,11 @@ fn service_marks(
 /// are lit, and all else is faint. A customer port that is joined with at most half of those ports is cut off. The
 /// scene's keys are those that the picture uses.
 ///
+/// The scene leaves the room that `rooms` asks for under the names of links and in the lines of customer ports.
+///
 /// The level of a bridge is the number of links up to the root of its tree, or to the bridge with the lowest number if
-/// the plan gives the states. No two boxes and no two names of links overlap; no contract covers the positions.
+/// the plan gives the states. No two boxes and no two names of links, with the room under them, overlap; no contract
+/// covers the positions.
 ///
 /// # Errors
 ///
@@ -132,14 +136,15 @@ pub fn scene_of(
     shape: &Shape,
     chosen: Option<u8>,
     failed: &Failures,
+    rooms: Rooms<'_>,
 ) -> Result<Scene, Memory>
     requires { IsSound plan.now }
     ensures { IfOk result (IsSceneOf plan.now shape.now chosen failed.now) }
 {
     let found = found_in(alloc, plan, shape, chosen)?;
-    let layout = layout_of(alloc, plan, shape)?;
+    let layout = layout_of(alloc, plan, shape, rooms)?;
     let bridges = bridge_marks(alloc, plan, failed, &found, &layout)?;
-    let links = link_marks(alloc, plan, shape, failed, &found, &layout)?;
+    let links = link_marks(alloc, plan, shape, failed, &found, &layout, rooms)?;
     let ports = port_marks(alloc, plan, &found, &layout)?;
     let keys = key_marks(
         alloc,

@@ -25,6 +25,24 @@ pub struct Lane {
     pub to_b: u32,
 }
 
+/// The room that the lines of text under the name of a link need. A line is 13 pixels high.
+#[derive(Clone, Copy, PartialEq, Eq, Debug)]
+pub struct Room {
+    /// The width of the widest line, in pixels.
+    pub width: u32,
+    /// The number of lines.
+    pub lines: u32,
+}
+
+/// The room that a picture needs besides its own texts.
+#[derive(Clone, Copy, Debug)]
+pub struct Rooms<'a> {
+    /// The room under the name of each link, in the plan's order. Links beyond the last entry need none.
+    pub links: &'a [Room],
+    /// The width after the names in the line of each customer port, in pixels.
+    pub ports: u32,
+}
+
 /// The route of a link.
 #[derive(Clone, Copy, PartialEq, Eq, Debug)]
 pub struct Route {
@@ -40,6 +58,8 @@ pub struct Route {
     pub label: Point,
     /// Half the width of its name.
     pub label_half: u32,
+    /// Half the width of the lines under its name, or 0 if there are none.
+    pub lines_half: u32,
     /// The middle of the number of its port at `a`.
     pub a_port: Point,
     /// The middle of the number of its port at `b`.

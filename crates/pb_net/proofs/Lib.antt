@@ -15,3 +15,4 @@ pub mod Records
 pub mod StartLemmas
 pub mod CopyLemmas
 mod SettledLemmas
+pub mod QuietLemmas

@@ -23,3 +23,7 @@ IsDueOr net event (Ok (Some place)) = IsDue net event
 IsDueOr net event (Err StepLimit) = (names_something net.plan event ≡ true) × (is_idle net.plan net.rec event ≡ false) × (is_at_limit net.plan net.rec event ≡ true)
 IsDueOr net event (Err Memory) = ⊥
 IsDueOr net event (Err NoSuch) = names_something net.plan event ≡ false
+
+-- the event is not due: it names nothing, or there is nothing to do
+abbrev pub IsQuiet : NetView → Event → Type 0
+IsQuiet net event = names_something net.plan event ≡ true → is_idle net.plan net.rec event ≡ true

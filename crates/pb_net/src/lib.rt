@@ -12,6 +12,7 @@ mod events;
 mod fault;
 mod lists;
 mod net;
+mod quiet;
 mod settled;
 mod slots;
 mod spots;

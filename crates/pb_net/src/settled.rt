@@ -21,7 +21,7 @@ impl Net {
     /// # Errors
     ///
     /// `Memory` if the allocation of the list failed.
-    fn machines(&self, alloc: Global) -> Result<Vec<&Rstp>, Memory>
+    pub fn machines(&self, alloc: Global) -> Result<Vec<&Rstp>, Memory>
         requires { self.now.plan.spanning ≡ by_protocol }
         ensures { IfOk result (λ machines. map (λ m. m.now) machines.items ≡ machines_in self.now.plan self.now.rec) }
     {

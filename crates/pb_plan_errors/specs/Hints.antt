@@ -31,7 +31,9 @@ kinds_with key =
     Some (codes "\"capture\" or \"replay\"")
     else if same key (codes "write") || same key (codes "stamp") then Some (codes "\"capture\" or \"record\"")
     else if same key (codes "path") then Some (codes "\"socket\" without listen")
-    else if same key (codes "listen") || same key (codes "stay") then Some (codes "\"socket\"") else None
+    else if same key (codes "listen") || (same key (codes "stay") || same key (codes "framing")) then Some (codes "\"socket\"")
+    else if same key (codes "local") || (same key (codes "remote") || same key (codes "encap")) then Some (codes "\"udp\"")
+    else if same key (codes "vni") then Some (codes "\"udp\" with encap \"vxlan\"") else None
 
 -- a key of a customer port is for these kinds
 abbrev pub is_for_kind : List ℕ → List ℕ → List ℕ

@@ -7,9 +7,9 @@ use Rattle.pb_service.specs.Keys.{names_of}
 -- the keys of all kinds of customer ports: those of a port in memory, and those of the other kinds
 abbrev pub all_port_keys : List (List ℕ)
 all_port_keys =
-    names_of (port_keys [] false)
+    names_of (port_keys [] false false)
     ++ (codes "read" ∷ codes "replay" ∷ codes "speed" ∷ codes "write" ∷ codes "stamp" ∷ codes "path" ∷ codes "listen"
-    ∷ codes "stay" ∷ [])
+    ∷ codes "stay" ∷ codes "framing" ∷ codes "local" ∷ codes "remote" ∷ codes "encap" ∷ codes "vni" ∷ [])
 
 -- the keys of an acceptance
 abbrev pub accept_keys : List (List ℕ)

@@ -142,7 +142,7 @@ fn message_of(
         IsPrintedMessage (table_view document.now) fault.now site.entry value.now (string_bytes message)) }
 {
     let mut message = String::new(alloc);
-    put_message(&mut message, document, fault, site, value)?;
+    put_message(alloc, &mut message, document, fault, site, value)?;
     printable(alloc, message.as_str())
 }
 

@@ -61,8 +61,12 @@ fn kinds_with(key: &str) -> Option<&'static str>
         Some("\"capture\" or \"record\"")
     } else if key == "path" {
         Some("\"socket\" without listen")
-    } else if key == "listen" || key == "stay" {
+    } else if key == "listen" || (key == "stay" || key == "framing") {
         Some("\"socket\"")
+    } else if key == "local" || (key == "remote" || key == "encap") {
+        Some("\"udp\"")
+    } else if key == "vni" {
+        Some("\"udp\" with encap \"vxlan\"")
     } else {
         None
     }

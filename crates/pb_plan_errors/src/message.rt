@@ -17,6 +17,9 @@ use pb_diagnostics::{Site, row_at, table_at};
 use pb_frame::Memory;
 use pb_lan::is_name;
 use pb_service::PlanFault;
+use std::alloc::Global;
+use std::net::SocketAddr;
+use std::str::FromStr;
 use toml::Table;
 
 /// Appends the kind and the name of a table.
@@ -87,7 +90,15 @@ pub(crate) fn table_of_key<'a>(document: &'a Table, site: Site<'_>) -> Option<&'
     }
 }
 
-/// Returns what a value contradicts, if it would be allowed by itself.
+/// Returns whether the text is a socket address whose port is not 0.
+fn is_socket_address(text: &str) -> bool {
+    match SocketAddr::from_str(text) {
+        Ok(address) => address.port() != 0,
+        Err(_) => false,
+    }
+}
+
+/// Returns what a number or a text contradicts, if it would be allowed by itself.
 fn conflict_of(word: &str, key: &str, row: &Table) -> Option<&'static str> {
     let number = integer_at(row, key);
     match (word, key) {
@@ -101,28 +112,40 @@ fn conflict_of(word: &str, key: &str, row: &Table) -> Option<&'static str> {
         ("link", "a_cost" | "b_cost") if 1 <= number && number <= 200_000_000 => {
             Some("allowed beside cost")
         }
-        ("link", "a_services" | "b_services") if are_names(items_at(row, key)) => {
-            Some("allowed beside services")
-        }
         ("event", "port") if 1 <= number && number <= 16 => Some("an end of a link"),
         ("port" | "tap", "stamp") if text_at(row, key) == "time" => Some("allowed without tick_ms"),
         ("port", "replay") if text_at(row, key) == "times" => Some("allowed without tick_ms"),
+        ("port", "remote") if is_socket_address(text_at(row, key)) => Some(
+            "of the family of local",
+        ),
         ("port", "speed") if 1 <= number && number <= 1_000 => Some("allowed without replay"),
         _ => None,
     }
 }
 
+/// Checks whether the value of a key is a list of services of one end of a link that would be allowed by itself.
+fn is_services(alloc: Global, word: &str, key: &str, row: &Table) -> Result<bool, Memory> {
+    if word == "link" && (key == "a_services" || key == "b_services") {
+        are_names(alloc, items_at(row, key))
+    } else {
+        Ok(false)
+    }
+}
+
 /// Returns what the value of a key must be.
-fn range_of(document: &Table, site: Site<'_>) -> &'static str {
+fn range_of(alloc: Global, document: &Table, site: Site<'_>) -> Result<&'static str, Memory> {
     let (word, key) = word_and_key(site);
     if let Some(row) = table_of_key(document, site) {
         if let Some(conflict) = conflict_of(word, key, row) {
-            return conflict;
+            return Ok(conflict);
+        }
+        if is_services(alloc, word, key, row)? {
+            return Ok("allowed beside services");
         }
     }
     match rule_of(word, key) {
-        Some(rule) => rule.range,
-        None => "allowed",
+        Some(rule) => Ok(rule.range),
+        None => Ok("allowed"),
     }
 }
 
@@ -158,6 +181,7 @@ fn put_shared(out: &mut String, document: &Table, site: Site<'_>) -> Result<(), 
 /// Appends what is wrong at a key or table, without the table. `value` is the text of the value in the file, or the
 /// empty text.
 fn put_wrong(
+    alloc: Global,
     out: &mut String,
     document: &Table,
     fault: &PlanFault,
@@ -171,7 +195,10 @@ fn put_wrong(
     match fault {
         PlanFault::Missing(_) => write!(out, "{key} is missing")?,
         PlanFault::Kind(_) => put_is_not(out, key, value, kind_of(site))?,
-        PlanFault::Range(_) => put_is_not(out, key, value, range_of(document, site))?,
+        PlanFault::Range(_) => {
+            let wanted = range_of(alloc, document, site)?;
+            put_is_not(out, key, value, wanted)?;
+        }
         PlanFault::Unknown(_) => write!(out, "unknown key {key}")?,
         PlanFault::Twice(name) => {
             let name = name.as_str();
@@ -198,6 +225,7 @@ fn put_wrong(
 ///
 /// `Memory` if an allocation failed.
 pub(crate) fn put_message(
+    alloc: Global,
     out: &mut String,
     document: &Table,
     fault: &PlanFault,
@@ -208,5 +236,5 @@ pub(crate) fn put_message(
         × IsMessage (table_view document.now) fault.now site.entry value.now text) }
 {
     put_subject(out, document, site)?;
-    put_wrong(out, document, fault, site, value)
+    put_wrong(alloc, out, document, fault, site, value)
 }

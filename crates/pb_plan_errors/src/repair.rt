@@ -99,20 +99,48 @@ fn fitting_kind(row: &Table) -> &'static str {
         "replay"
     } else if has_key(row, "path") || has_key(row, "listen") {
         "socket"
+    } else if has_key(row, "local") || has_key(row, "remote") {
+        "udp"
     } else {
         "memory"
     }
 }
 
-/// Returns the kind of a customer port at an index, by the other keys of its table.
-fn spare_kind(alloc: Global, document: &Table, index: usize) -> Result<Option<Value>, Memory> {
-    match row_at(document, "port", index) {
-        Some(row) => Ok(Some(Value::string(alloc, fitting_kind(row))?)),
-        None => Ok(None),
+/// Returns what precedes the frames of a customer port's datagrams, by the other keys of its table.
+fn fitting_encap(row: &Table) -> &'static str {
+    if has_key(row, "vni") { "vxlan" } else { "none" }
+}
+
+/// Returns a socket address of the family of that at a key of a table, or of IPv4.
+fn fitting_address(row: &Table, beside: &str) -> &'static str {
+    if text_at(row, beside).starts_with('[') {
+        "[::1]:1"
+    } else {
+        "127.0.0.1:1"
     }
 }
 
-/// Returns a value that is right for a key without a default or for the kind of a port, or `None` for another key.
+/// Returns the value of a key of a customer port at an index that fits the other keys of its table.
+fn fitting_value(
+    alloc: Global,
+    document: &Table,
+    index: usize,
+    key: &str,
+) -> Result<Option<Value>, Memory> {
+    let Some(row) = row_at(document, "port", index) else {
+        return Ok(None);
+    };
+    let fitting = match key {
+        "kind" => fitting_kind(row),
+        "encap" => fitting_encap(row),
+        "local" => fitting_address(row, "remote"),
+        _ => fitting_address(row, "local"),
+    };
+    Ok(Some(Value::string(alloc, fitting)?))
+}
+
+/// Returns a value that is right for a key without a default, or for a key on which the other keys of a port depend.
+/// Returns `None` for another key.
 fn right_value(
     alloc: Global,
     document: &mut Table,
@@ -129,9 +157,9 @@ fn right_value(
         "a_port" => free_port(alloc, document, (word, index, "a")),
         "b_port" => free_port(alloc, document, (word, index, "b")),
         "port" => free_port(alloc, document, (word, index, "bridge")),
-        "at" => Ok(Some(Value::Integer(0))),
+        "at" | "vni" => Ok(Some(Value::Integer(0))),
         "up" => Ok(Some(Value::Boolean(true))),
-        "kind" => spare_kind(alloc, document, index),
+        "kind" | "encap" | "local" | "remote" => fitting_value(alloc, document, index, key),
         "read" | "write" | "path" | "listen" => Ok(Some(Value::string(alloc, "x")?)),
         _ => Ok(None),
     }
@@ -186,8 +214,8 @@ fn remove_key(row: &mut Table, fault: &PlanFault, key: &str) {
     }
 }
 
-/// Repairs a key of a table: it gets a right value if it has no default or is a kind, and is removed otherwise. A name
-/// that nothing has is removed from a list.
+/// Repairs a key of a table: it gets a right value if it has no default or other keys depend on it, and is removed
+/// otherwise. A name that nothing has is removed from a list.
 fn repair_key(
     alloc: Global,
     document: &mut Table,

@@ -8,7 +8,10 @@ ghost use Rattle.pb_service.specs.Tables.{text_at, items_at};
 ghost use Rattle.pb_service.specs.Told.{has_key};
 ghost use Rattle.pb_service.specs.Values.{text_in};
 
+use pb_frame::Memory;
 use pb_lan::is_name;
+use std::alloc::Global;
+use std::collections::BTreeSet;
 use toml::{Table, Value};
 
 /// Returns the value at a key, if there is one.
@@ -71,16 +74,23 @@ pub(crate) fn items_at<'a>(row: &'a Table, key: &str) -> &'a [Value]
     }
 }
 
-/// Returns whether the items are different names.
-pub(crate) fn are_names(items: &[Value]) -> bool {
-    for (index, item) in items.iter().enumerate() {
-        let Some(name) = item.as_str() else {
-            return false;
-        };
-        let (earlier, _) = items.split_at(index);
-        if !is_name(name.as_bytes()) || earlier.iter().any(|other| other.as_str() == Some(name)) {
-            return false;
+/// Checks whether the items are different names.
+///
+/// # Errors
+///
+/// `Memory` if an allocation failed.
+pub(crate) fn are_names(alloc: Global, items: &[Value]) -> Result<bool, Memory> {
+    let mut seen = BTreeSet::new(alloc);
+    for item in items {
+        let name = text_in(item);
+        if !is_name(name.as_bytes()) {
+            return Ok(false);
+        }
+        match seen.insert(name) {
+            Ok(true) => {}
+            Ok(false) => return Ok(false),
+            Err(_) => return Err(Memory),
         }
     }
-    true
+    Ok(true)
 }

@@ -49,7 +49,10 @@ const PRIORITY: &str = "a multiple of 16 in 0..240";
 
 const STATE: &str = "\"discarding\", \"learning\" or \"forwarding\"";
 
-const KIND: &str = "\"memory\", \"capture\", \"record\", \"replay\" or \"socket\"";
+const KIND: &str = "\"memory\", \"capture\", \"record\", \"replay\", \"socket\" or \"udp\"";
+
+const SOCKET: &str =
+    "an address with a port in 1..65535 such as \"127.0.0.1:4790\" or \"[::1]:4790\"";
 
 const RISING: &str = "an array of rising numbers";
 
@@ -103,7 +106,7 @@ static SERVICE: [Rule; 2] = [
     rule!("vid", INTEGER, "in 1..4094"),
 ];
 
-static PORTS: [Rule; 16] = [
+static PORTS: [Rule; 21] = [
     rule!("name", STRING, NAME),
     rule!("bridge", STRING, NAME),
     rule!("port", INTEGER, PORT),
@@ -120,6 +123,11 @@ static PORTS: [Rule; 16] = [
     rule!("path", STRING, STRING),
     rule!("listen", STRING, STRING),
     rule!("stay", FLAG, FLAG),
+    rule!("framing", INTEGER, "2 or 4"),
+    rule!("local", STRING, SOCKET),
+    rule!("remote", STRING, SOCKET),
+    rule!("encap", STRING, "\"vxlan\" or \"none\""),
+    rule!("vni", INTEGER, "in 0..16777215"),
 ];
 
 static EVENT: [Rule; 4] = [

@@ -1,12 +1,14 @@
 //! The errors of plan files.
 
 mod both_ends;
+mod explained;
 mod printable;
 mod taps;
+mod udp;
 
+use self::explained::{all_errors, explained, first_error};
 use pb_diagnostics::put_diagnostic;
 use pb_frame::Text;
-use pb_plan_errors::{fault_error, plan_error, plan_errors};
 use pb_service::PlanFault;
 use std::alloc::Global;
 use std::process::Abort;
@@ -214,7 +216,8 @@ hint: path is for kind \"socket\" without listen
     (
         "port = 2",
         "port = 2\nkind = \"recrod\"",
-        "p:27:8: port \"C1\": kind \"recrod\" is not \"memory\", \"capture\", \"record\", \"replay\" or \"socket\"
+        "p:27:8: port \"C1\": kind \"recrod\" is not \"memory\", \"capture\", \"record\", \"replay\", \"socket\" \
+        or \"udp\"
     kind = \"recrod\"
            ^^^^^^^^
 ",
@@ -238,7 +241,7 @@ fn changed(alloc: Global, old: &str, new: &str) -> Result<String, Fail> {
 /// Returns the text of the first error of a file.
 fn first_text(alloc: Global, file: &[u8]) -> Result<String, Fail> {
     let mut out = String::new(alloc);
-    if let Some(error) = plan_error(alloc, file)? {
+    if let Some(error) = first_error(alloc, file)? {
         put_diagnostic(&mut out, "p", &error)?;
     }
     Ok(out)
@@ -247,7 +250,7 @@ fn first_text(alloc: Global, file: &[u8]) -> Result<String, Fail> {
 /// Returns the text of all errors of a file.
 fn all_text(alloc: Global, file: &[u8]) -> Result<String, Fail> {
     let mut out = String::new(alloc);
-    for error in plan_errors(alloc, file)?.as_slice() {
+    for error in all_errors(alloc, file)?.as_slice() {
         put_diagnostic(&mut out, "p", error)?;
     }
     Ok(out)
@@ -397,7 +400,7 @@ fn a_fault_of_an_acceptance_has_a_place(rt: HostRuntime) -> Result<(), Fail> {
     let fault = PlanFault::NoSuch(Text::from_string(String::from_str(alloc, "L9")?));
     let file = b"[[accept]]\nlink = \"L9\"\n";
     let mut text = String::new(alloc);
-    put_diagnostic(&mut text, "p", &fault_error(alloc, file, &fault)?)?;
+    put_diagnostic(&mut text, "p", &explained(alloc, file, &fault)?)?;
     let want = "p:2:8: accept[0]: no link is named \"L9\"\n    link = \"L9\"\n           ^^^^\n";
     assert!(rt; text.as_str() == want, "{text}");
     Ok(())
@@ -418,7 +421,7 @@ fn a_misspelt_kind_is_one_error(rt: HostRuntime) -> Result<(), Fail> {
         "port = 2",
         "port = 2\nkind = \"recrod\"\nwrite = \"out\"",
     )?;
-    let errors = plan_errors(alloc, file.as_bytes())?;
+    let errors = all_errors(alloc, file.as_bytes())?;
     assert_eq!(rt; errors.len(), 1);
     Ok(())
 }
@@ -430,7 +433,7 @@ fn at_most_fifty_errors_are_reported(rt: HostRuntime) -> Result<(), Fail> {
     for number in 0..60 {
         write!(&mut file, "k{number} = 1\n")?;
     }
-    let errors = plan_errors(alloc, file.as_bytes())?;
+    let errors = all_errors(alloc, file.as_bytes())?;
     assert_eq!(rt; errors.len(), 50);
     Ok(())
 }

@@ -7,15 +7,16 @@ use Rattle.std.proofs.lemmas.Bool.{le-ltb}
 use Rattle.std.proofs.Math.Seq.{take-append_seam, drop-append_seam}
 use Rattle.byteorder.specs.Endian.{big_number}
 use Rattle.pb_port.specs.declared.fault.PortFault.{PortFault}
+use Rattle.pb_port.specs.declared.framing.LengthField.{LengthField}
 use Rattle.pb_port.specs.declared.stream_position.ByteOrder.{ByteOrder}
-use Rattle.pb_port.specs.declared.stream_position.ByteOrder.TheVariants.{Big}
 use Rattle.pb_port.specs.declared.stream_position.StreamPosition.{StreamPosition}
 use Rattle.pb_port.specs.declared.stream_position.StreamPosition.TheVariants.{Header, Records, Lengths}
+use Rattle.pb_port.specs.LengthFields.{octets_of}
 use Rattle.pb_port.specs.Ports.{Frames}
 use Rattle.pb_port.specs.Streams.{captured, original, byte_order_of, fault_at, Passes, AreSkipped, IsHeader, IsRecord}
-use Rattle.pb_port.specs.Streams.{IsSkipped, IsFrame, IsFramed}
+use Rattle.pb_port.specs.Streams.{IsSkipped, IsFrame, IsFramed, framed}
 use Rattle.pb_port.specs.Whole.{Ends, IsStream}
-use Rattle.pb_port.proofs.StreamLemmas.{number-front, header_fault-front}
+use Rattle.pb_port.proofs.StreamLemmas.{number-front, header_fault-front, framed-front, some_octets}
 
 append_parts : (a b x y : List ℕ) → length a ≡ length b → a ++ x ≡ b ++ y → (a ≡ b) × (x ≡ y)
 append_parts a b x y same e = (
@@ -37,12 +38,12 @@ frame_same Header a b f g x y is is' e = absurd is
 frame_same (Records order) a b f g x y is is' e =
     let parts = record_same order a b x y is.whole is'.whole e in
     (is.content ∙ ap (λ z. drop 16 z) parts.0 ∙ sym is'.content, parts.1)
-frame_same Lengths a b f g x y is is' e =
-    let here : big_number 2 (a ++ x) ≡ big_number 2 a = number-front Big 2 0 a x (omega arith) in
-    let there : big_number 2 (b ++ y) ≡ big_number 2 b = number-front Big 2 0 b y (omega arith) in
-    let same : big_number 2 a ≡ big_number 2 b = sym here ∙ ap (λ z. big_number 2 z) e ∙ there in
-    let parts = append_parts a b x y (omega arith) e in
-    (is.content ∙ ap (λ z. drop 2 z) parts.0 ∙ sym is'.content, parts.1)
+frame_same (Lengths field) a b f g x y is is' e =
+    let here : framed field (a ++ x) ≡ framed field a = framed-front field a x (omega (arith, is.long)) in
+    let there : framed field (b ++ y) ≡ framed field b = framed-front field b y (omega (arith, is'.long)) in
+    let same : framed field a ≡ framed field b = sym here ∙ ap (λ z. framed field z) e ∙ there in
+    let parts = append_parts a b x y (omega (arith, is.long, is'.long)) e in
+    (is.content ∙ ap (λ z. drop (octets_of field) z) parts.0 ∙ sym is'.content, parts.1)
 
 -- a complete part has no fault
 header_sound : (order : ByteOrder) (a x : List ℕ) → IsHeader order a → fault_at Header (a ++ x) ≡ None
@@ -60,24 +61,29 @@ record_sound order a x is =
     le-ltb (length (a ++ x)) (16 + captured order (a ++ x)) (omega (arith, length-append a x)) in
     rw (some, first, low, all) refl
 
-framed_sound : (a x f : List ℕ) → IsFramed a f → fault_at Lengths (a ++ x) ≡ None
-framed_sound a x f is =
-    let same : big_number 2 (a ++ x) ≡ big_number 2 a = number-front Big 2 0 a x (omega arith) in
-    let some : eqb (length (a ++ x)) 0 ≡ false = ne_eqb (length (a ++ x)) 0 (λ q. omega (arith, length-append a x)) in
-    let first : nat_lt (length (a ++ x)) 2 ≡ false = le-ltb (length (a ++ x)) 2 (omega (arith, length-append a x)) in
-    let all : nat_lt (length (a ++ x)) (2 + big_number 2 (a ++ x)) ≡ false =
-    le-ltb (length (a ++ x)) (2 + big_number 2 (a ++ x)) (omega (arith, length-append a x)) in
-    rw (some, first, all) refl
+framed_sound : (field : LengthField) (a x f : List ℕ) → IsFramed field a f
+    → fault_at (Lengths field) (a ++ x) ≡ None
+framed_sound field a x f is =
+    let n = framed field (a ++ x) in
+    let same : n ≡ framed field a = framed-front field a x (omega (arith, is.long)) in
+    let some : eqb (length (a ++ x)) 0 ≡ false = ne_eqb (length (a ++ x)) 0
+    (λ q. omega (arith, is.long, length-append a x, some_octets field)) in
+    let first : nat_lt (length (a ++ x)) (octets_of field) ≡ false =
+    le-ltb (length (a ++ x)) (octets_of field) (omega (arith, is.long, length-append a x)) in
+    let low : nat_lt 65535 n ≡ false = le-ltb 65535 n (omega (arith, is.limit)) in
+    let all : nat_lt (length (a ++ x)) (octets_of field + n) ≡ false =
+    le-ltb (length (a ++ x)) (octets_of field + n) (omega (arith, is.long, length-append a x)) in
+    rw (some, first, low, all) refl
 
 frame_sound : (p : StreamPosition) (a x f : List ℕ) → IsFrame p a f → fault_at p (a ++ x) ≡ None
 frame_sound Header a x f is = absurd is
 frame_sound (Records order) a x f is = record_sound order a x is.whole
-frame_sound Lengths a x f is = framed_sound a x f is
+frame_sound (Lengths field) a x f is = framed_sound field a x f is
 
 frame_long : (p : StreamPosition) (a f : List ℕ) → IsFrame p a f → 0 < length a
 frame_long Header a f is = absurd is
 frame_long (Records order) a f is = omega (arith, is.whole)
-frame_long Lengths a f is = omega arith
+frame_long (Lengths field) a f is = omega (arith, is.long, some_octets field)
 
 -- if the input ends or has a fault, no complete part is at its front
 ends_short : (p : StreamPosition) (rest a x : List ℕ) (fault : Option PortFault) → Ends p rest fault → rest ≡ a ++ x
@@ -92,7 +98,7 @@ ends_short p rest a x fault (here, none) e long sound =
 abbrev Stops : StreamPosition → List ℕ → Type 0
 Stops Header rest = (order : ByteOrder) (header more : List ℕ) → IsHeader order header → rest ≡ header ++ more → ⊥
 Stops (Records order) rest = (first more : List ℕ) → IsSkipped order first → rest ≡ first ++ more → ⊥
-Stops Lengths rest = ⊤
+Stops (Lengths field) rest = ⊤
 
 ends_stop : (p : StreamPosition) (rest : List ℕ) (fault : Option PortFault) → Ends p rest fault → Stops p rest
 ends_stop Header rest fault ends = λ order header more is e.
@@ -100,7 +106,7 @@ ends_stop Header rest fault ends = λ order header more is e.
 ends_stop (Records order) rest fault ends = λ first more is e.
     ends_short (Records order) rest first more fault ends e (omega (arith, is.whole))
     (record_sound order first more is.whole)
-ends_stop Lengths rest fault ends = tt
+ends_stop (Lengths field) rest fault ends = tt
 
 frame_stops : (p : StreamPosition) (part rest f : List ℕ) → IsFrame p part f → Stops p (part ++ rest)
 frame_stops Header part rest f is = absurd is
@@ -110,7 +116,7 @@ frame_stops (Records order) part rest f is = λ first more skipped e.
     let cut : captured order part < original order part = subst P (sym parts.0) skipped.cut in
     let full : original order part ≤ captured order part = is.full in
     omega arith
-frame_stops Lengths part rest f is = tt
+frame_stops (Lengths field) part rest f is = tt
 
 skips_same : (order : ByteOrder) (m n : ℕ) (xs ys rest rest' : List ℕ) → AreSkipped order m xs → AreSkipped order n ys
     → Stops (Records order) rest → Stops (Records order) rest' → xs ++ rest ≡ ys ++ rest' → (m ≡ n) × (rest ≡ rest')
@@ -154,7 +160,7 @@ passes_same Header Header (Records o) m n xs ys rest rest' (a, zero_m) (header, 
     stop' e =
     absurd (stop o header (records ++ rest') is (sym (ap (λ z. z ++ rest) a) ∙ e ∙ ap (λ z. z ++ rest') parts
     ∙ append_assoc header records rest'))
-passes_same Header Header Lengths m n xs ys rest rest' a b stop stop' e = absurd b
+passes_same Header Header (Lengths field) m n xs ys rest rest' a b stop stop' e = absurd b
 passes_same Header (Records o) Header m n xs ys rest rest' (header, records, is, skipped, parts) (b, zero_n) stop
     stop' e =
     absurd (stop' o header (records ++ rest) is (sym (ap (λ z. z ++ rest') b) ∙ sym e ∙ ap (λ z. z ++ rest) parts
@@ -164,23 +170,24 @@ passes_same Header (Records o) (Records o') m n xs ys rest rest' (header, record
     headers_same o o' m n header header' records records' rest rest' is is' skipped skipped' stop stop'
     (sym (ap (λ z. z ++ rest) parts ∙ append_assoc header records rest) ∙ e ∙ ap (λ z. z ++ rest') parts'
     ∙ append_assoc header' records' rest')
-passes_same Header (Records o) Lengths m n xs ys rest rest' a b stop stop' e = absurd b
-passes_same Header Lengths q' m n xs ys rest rest' a b stop stop' e = absurd a
+passes_same Header (Records o) (Lengths field) m n xs ys rest rest' a b stop stop' e = absurd b
+passes_same Header (Lengths field) q' m n xs ys rest rest' a b stop stop' e = absurd a
 passes_same (Records o) (Records o1) (Records o2) m n xs ys rest rest' (one, a) (two, b) stop stop' e =
     let P : ByteOrder → Type 0 = λ z. Stops (Records z) rest in
     let Q : ByteOrder → Type 0 = λ z. Stops (Records z) rest' in
     let next = skips_same o m n xs ys rest rest' a b (subst P one stop) (subst Q two stop') e in
     (ap (λ z. Records z) (one ∙ sym two), next.0, next.1)
 passes_same (Records o) (Records o1) Header m n xs ys rest rest' a b stop stop' e = absurd b
-passes_same (Records o) (Records o1) Lengths m n xs ys rest rest' a b stop stop' e = absurd b
+passes_same (Records o) (Records o1) (Lengths field) m n xs ys rest rest' a b stop stop' e = absurd b
 passes_same (Records o) Header q' m n xs ys rest rest' a b stop stop' e = absurd a
-passes_same (Records o) Lengths q' m n xs ys rest rest' a b stop stop' e = absurd a
-passes_same Lengths Lengths Lengths m n xs ys rest rest' (a, zero_m) (b, zero_n) stop stop' e =
-    (refl, zero_m ∙ sym zero_n, sym (ap (λ z. z ++ rest) a) ∙ e ∙ ap (λ z. z ++ rest') b)
-passes_same Lengths Lengths Header m n xs ys rest rest' a b stop stop' e = absurd b
-passes_same Lengths Lengths (Records o) m n xs ys rest rest' a b stop stop' e = absurd b
-passes_same Lengths Header q' m n xs ys rest rest' a b stop stop' e = absurd a
-passes_same Lengths (Records o) q' m n xs ys rest rest' a b stop stop' e = absurd a
+passes_same (Records o) (Lengths field) q' m n xs ys rest rest' a b stop stop' e = absurd a
+passes_same (Lengths f) (Lengths f1) (Lengths f2) m n xs ys rest rest' (one, a, zero_m) (two, b, zero_n) stop stop' e =
+    let same : Lengths f1 ≡ Lengths f2 = ap (λ z. Lengths z) (one ∙ sym two) in
+    (same, zero_m ∙ sym zero_n, sym (ap (λ z. z ++ rest) a) ∙ e ∙ ap (λ z. z ++ rest') b)
+passes_same (Lengths f) (Lengths f1) Header m n xs ys rest rest' a b stop stop' e = absurd b
+passes_same (Lengths f) (Lengths f1) (Records o) m n xs ys rest rest' a b stop stop' e = absurd b
+passes_same (Lengths f) Header q' m n xs ys rest rest' a b stop stop' e = absurd a
+passes_same (Lengths f) (Records o) q' m n xs ys rest rest' a b stop stop' e = absurd a
 
 -- one reading cannot end at a position at which the other has a frame
 end_or_frame : (p q q' : StreamPosition) (m n : ℕ) (xs ys rest part rest' f : List ℕ) (fault : Option PortFault)

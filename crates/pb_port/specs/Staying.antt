@@ -3,6 +3,7 @@ use Rattle.std.specs.Prelude.{◌≡◌, ℕ, ◌-◌, ◌<◌, true, false, Lis
 use Rattle.pb_port.specs.declared.answers.Polled.{Polled}
 use Rattle.pb_port.specs.declared.answers.Pumped.{Pumped}
 use Rattle.pb_port.specs.declared.answers.Ending.{Ending}
+use Rattle.pb_port.specs.declared.framing.LengthField.{LengthField}
 use Rattle.pb_port.specs.declared.line.Parting.{Parting}
 use Rattle.pb_port.specs.declared.reader.FrameReader.{FrameReader}
 use Rattle.pb_port.specs.declared.sender.Sender.{Sender}
@@ -19,10 +20,10 @@ abbrev pub heard : Polled → Option Ending → Polled
 heard p None = p
 heard p (Some e) = answer_of e
 
--- the reader holds nothing, and is before the first octet of a peer
-pub record IsNewReader (r : FrameReader) : Type 0 where
+-- the reader holds nothing, and is before the first octet of a peer, whose lengths have this field
+pub record IsNewReader (field : LengthField) (r : FrameReader) : Type 0 where
   pub held : held r.intake ≡ []
-  pub position : r.position ≡ Lengths
+  pub position : r.position ≡ Lengths field
   pub ended : r.ended ≡ None
 
 -- no frame waits, and none was begun
@@ -48,10 +49,11 @@ module _ {S : Type 0} where
   -- octets are dropped, the line is renewed with the counts, and the port is before the first octets of the next peer
   pub record Leaves (renews : S → Parting → S → Type 0) (n rest : ℕ) (line : S) (p p' : StayingPort S) : Type 0 where
     pub unread : ℕ
-    pub begins : Begins (held p.frames.intake) unread
+    pub begins : Begins p.framing (held p.frames.intake) unread
     pub renewed : renews line (parting_of p.entered (held_sum p.left n) (held_sum rest unread)) p'.line
     pub counts : (p'.entered ≡ 0) × (p'.left ≡ 0)
-    pub reader : IsNewReader p'.frames
+    pub framing : p'.framing ≡ p.framing
+    pub reader : IsNewReader p.framing p'.frames
     pub sender : IsNewSender p'.sender
 
   -- a write fails after n frames were sent, with which the peer leaves

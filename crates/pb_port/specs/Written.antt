@@ -13,7 +13,7 @@ use Rattle.pb_port.specs.Whole.{IsStream}
 abbrev pub position_of : Framing → Bool → StreamPosition
 position_of Capture true = Header
 position_of Capture false = Records Little
-position_of Socket fresh = Lengths
+position_of (Socket field) fresh = Lengths field
 
 -- the octets of frames, each begun at its own microsecond
 abbrev pub spelled_all : Framing → Bool → List (ℕ × List ℕ) → List ℕ

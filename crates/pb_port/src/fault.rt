@@ -15,7 +15,7 @@ pub enum PortFault {
     LinkType,
     /// An input that ends inside a header, a record or a frame.
     Truncated,
-    /// A record of more than 262,144 captured octets.
+    /// A record of more than 262,144 captured octets, or a frame of a socket of more than 65,535 octets.
     Oversize,
     /// A read that failed.
     Read,

@@ -7,7 +7,7 @@ ghost use Rattle.pb_port.specs.Ports.{PolledBy, GivenBy, OfferedBy, TalliedBy, E
 ghost use Rattle.pb_port.specs.Reading.{held_sum};
 
 use crate::answers::{Offered, Polled, Pumped, Shelf};
-use crate::framing::Framing;
+use crate::framing::{Framing, LengthField};
 use crate::line::{Line, Parting};
 use crate::passed::Passed;
 use crate::port::Port;
@@ -26,6 +26,7 @@ use std::collections::VecDeque;
 /// port never ends, and no failed call of the device is a failure of the port.
 #[derive(Drop)]
 pub struct StayingPort<S> {
+    framing: LengthField,
     frames: FrameReader,
     sender: Sender,
     passed: Passed,
@@ -38,8 +39,8 @@ pub struct StayingPort<S> {
     ghost few: { length sender.unsent.items ≤ sender.capacity },
     ghost bounded: { sender.capacity ≤ 4096 },
     ghost counted: { entered < 2 ^ 64 },
-    ghost writes: { sender.framing ≡ socket_framing },
-    ghost reads: { frames.position ≡ before_length },
+    ghost writes: { sender.framing ≡ socket_framing framing },
+    ghost reads: { frames.position ≡ before_length framing },
 }
 
 impl<S: Line> StayingPort<S> {
@@ -47,21 +48,22 @@ impl<S: Line> StayingPort<S> {
     ghost use Rattle.pb_port.specs.Staying.{Stays, Leaves, LeavesAtWrite, IsNewSender};
 
     /// Returns a port before the first octet of its first peer in both directions. `capacity` is how many frames may
-    /// wait, 1 to 4,096.
-    pub fn new(alloc: Global, capacity: u16, line: S) -> StayingPort<S>
+    /// wait, 1 to 4,096, and `framing` how many octets each length has, with every peer.
+    pub fn new(alloc: Global, capacity: u16, framing: LengthField, line: S) -> StayingPort<S>
         requires { (0 < capacity) × (capacity ≤ 4096) }
-        ensures reading { (held result.frames.intake ≡ []) × (result.frames.position ≡ StreamPosition.Lengths)
+        ensures reading { (held result.frames.intake ≡ []) × (result.frames.position ≡ StreamPosition.Lengths framing)
             × (result.frames.skipped ≡ 0) × (result.frames.ended ≡ None) }
         ensures writing { (result.sender.unsent.items ≡ []) × (begun result.sender ≡ []) × (result.sender.fresh ≡ true)
-            × (result.sender.framing ≡ Framing.Socket) }
+            × (result.sender.framing ≡ Framing.Socket framing) }
         ensures kept { (result.sender.capacity ≡ capacity) × (result.sender.shelved ≡ false) }
         ensures counts { (result.entered ≡ 0) × (result.left ≡ 0) }
-        ensures line { result.line ≡ line }
+        ensures line { (result.line ≡ line) × (result.framing ≡ framing) }
         ensures passed { (result.passed.given.items ≡ []) × (result.passed.taken.items ≡ []) }
     {
         StayingPort {
-            frames: FrameReader::new(alloc, StreamPosition::Lengths),
-            sender: Sender::new(alloc, Framing::Socket, capacity),
+            framing,
+            frames: FrameReader::new(alloc, StreamPosition::Lengths(framing)),
+            sender: Sender::new(alloc, Framing::Socket(framing), capacity),
             passed: Passed::new(),
             entered: 0,
             left: 0,
@@ -76,13 +78,13 @@ impl<S: Line> StayingPort<S> {
         ensures leaves { Leaves S.renews sent dropped self.old.line self.old self.new }
         ensures kept { (self.new.sender ≡ self.old.sender) × (self.new.passed ≡ self.old.passed) }
     {
-        let unread = self.frames.begun_frames();
+        let unread = self.frames.begun_frames(self.framing);
         let parting = Parting {
             entered: self.entered,
             left: self.left.saturating_add(sent as u64),
             dropped: (dropped as u64).saturating_add(unread as u64),
         };
-        self.frames.renew(StreamPosition::Lengths);
+        self.frames.renew(StreamPosition::Lengths(self.framing));
         self.entered = 0;
         self.left = 0;
         self.line.renew(parting);

@@ -1,12 +1,17 @@
 //! The part at the front of the octets of a capture file or a socket stream.
 ghost use Rattle.std.specs.Prelude.{◌≡◌, ◌+◌, ◌<◌, ◌≤◌, ◌^◌, ℕ, List, length, take, drop, MatchResult, Some, None};
 ghost use Rattle.pb_port.specs.Streams.{number, byte_order_of, captured, original, header_fault, fault_at, unfinished};
-ghost use Rattle.pb_port.specs.Streams.{Shows};
+ghost use Rattle.pb_port.specs.Streams.{Shows, framed};
 ghost use Rattle.pb_port.specs.Faults.{IsOfOctets};
+ghost use Rattle.pb_port.specs.LengthFields.{octets_of};
 ghost use Rattle.byteorder.specs.Endian.{big_number};
 
 use crate::fault::PortFault;
+use crate::framing::LengthField;
 use byteorder::{BigEndian, ByteOrder as _, LittleEndian};
+
+/// The most octets of a frame of a socket.
+const LONGEST: u32 = 65_535;
 
 /// The order of the octets of a number.
 #[derive(Clone, Copy, Debug, PartialEq, Eq)]
@@ -25,7 +30,7 @@ pub enum StreamPosition {
     /// The position before a record of a capture.
     Records(ByteOrder),
     /// The position before a frame of a socket.
-    Lengths,
+    Lengths(LengthField),
 }
 
 /// The part at the front of some octets.
@@ -136,18 +141,34 @@ fn look_record(order: ByteOrder, octets: &[u8]) -> Look
     Look::Frame(16, whole)
 }
 
-/// Checks for a frame of a socket at the front of the octets.
-fn look_length(octets: &[u8]) -> Look
-    ensures { Shows StreamPosition.Lengths octets.now result }
+/// Reads the length of a frame.
+fn read_length(field: LengthField, octets: &[u8]) -> u32
+    requires { octets_of field ≤ length octets.now }
+    ensures { result ≡ framed field octets.now }
 {
-    if octets.len() < 2 {
+    match field {
+        LengthField::Two => u32::from(BigEndian::read_u16(octets)),
+        LengthField::Four => BigEndian::read_u32(octets),
+    }
+}
+
+/// Checks for a frame of a socket at the front of the octets.
+fn look_length(field: LengthField, octets: &[u8]) -> Look
+    ensures { Shows (StreamPosition.Lengths field) octets.now result }
+{
+    let head = field.octets();
+    if octets.len() < head {
         return Look::Short;
     }
-    let whole = 2 + BigEndian::read_u16(octets) as usize;
+    let length = read_length(field, octets);
+    if LONGEST < length {
+        return Look::Fault(PortFault::Oversize);
+    }
+    let whole = head + length as usize;
     if octets.len() < whole {
         return Look::Short;
     }
-    Look::Frame(2, whole)
+    Look::Frame(head, whole)
 }
 
 /// Checks which part is at the front of the octets.
@@ -157,6 +178,6 @@ pub(crate) fn look_at(position: StreamPosition, octets: &[u8]) -> Look
     match position {
         StreamPosition::Header => look_header(octets),
         StreamPosition::Records(order) => look_record(order, octets),
-        StreamPosition::Lengths => look_length(octets),
+        StreamPosition::Lengths(field) => look_length(field, octets),
     }
 }

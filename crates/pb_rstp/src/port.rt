@@ -1,6 +1,6 @@
 //! The variables that a bridge keeps for each port.
 
-ghost use Rattle.std.specs.Prelude.{◌≡◌};
+ghost use Rattle.std.specs.Prelude.{◌≡◌, ◌↔◌, IsTrue};
 ghost use Rattle.pb_rstp.specs.Ports.{id_of, stored_vector, root_path, designated_vector, port_of, root_info};
 ghost use Rattle.pb_rstp.specs.Ports.{fwd_delay_of, fresh, is_discarding};
 ghost use Rattle.pb_lan.specs.Shapes.{is_forwarding};
@@ -145,6 +145,69 @@ pub(crate) fn port_of(ports: &[Port], number: u8) -> Option<Port>
         }
     }
     None
+}
+
+/// Returns whether both store the same information, or none.
+fn is_same_info(a: Option<Info>, b: Option<Info>) -> bool
+    ensures { IsTrue result ↔ (a ≡ b) }
+{
+    a == b
+}
+
+/// Returns whether both ports have the same number, cost and priority, and both or none are enabled.
+fn is_same_setting(a: &Port, b: &Port) -> bool
+    ensures { IsTrue result ↔ ((a.now.number ≡ b.now.number) × (a.now.cost ≡ b.now.cost)
+        × (a.now.priority ≡ b.now.priority) × (a.now.port_enabled ≡ b.now.port_enabled)) }
+{
+    a.number == b.number
+        && a.cost == b.cost
+        && a.priority == b.priority
+        && a.port_enabled == b.port_enabled
+}
+
+/// Returns whether the timers of both ports have the same values.
+fn is_same_timing(a: &Port, b: &Port) -> bool
+    ensures { IsTrue result ↔ ((a.now.fd_while ≡ b.now.fd_while) × (a.now.tc_while ≡ b.now.tc_while)
+        × (a.now.tx_count ≡ b.now.tx_count)) }
+{
+    a.fd_while == b.fd_while && a.tc_while == b.tc_while && a.tx_count == b.tx_count
+}
+
+/// Returns whether both ports have the same role and the same state, and agree and are due alike.
+fn is_same_stand(a: &Port, b: &Port) -> bool
+    ensures { IsTrue result ↔ ((a.now.role ≡ b.now.role) × (a.now.state ≡ b.now.state)
+        × (a.now.agreed ≡ b.now.agreed) × (a.now.agree ≡ b.now.agree) × (a.now.new_info ≡ b.now.new_info)) }
+{
+    a.role == b.role
+        && a.state == b.state
+        && a.agreed == b.agreed
+        && a.agree == b.agree
+        && a.new_info == b.new_info
+}
+
+/// Returns whether both ports have the same variables.
+fn is_same(a: &Port, b: &Port) -> bool
+    ensures { IsTrue result ↔ (a.now ≡ b.now) }
+{
+    is_same_setting(a, b)
+        && is_same_timing(a, b)
+        && is_same_stand(a, b)
+        && is_same_info(a.info, b.info)
+}
+
+/// Returns whether the ports are as many, and each has the same variables as the other of its place.
+pub(crate) fn are_same(a: &[Port], b: &[Port]) -> bool
+    ensures { IsTrue result ↔ (a.now ≡ b.now) }
+{
+    if a.len() != b.len() {
+        return false;
+    }
+    for i in 0..a.len() {
+        if !is_same(&a[i], &b[i]) {
+            return false;
+        }
+    }
+    true
 }
 
 /// Returns the information that the Root port stores, if the bridge has a Root port.

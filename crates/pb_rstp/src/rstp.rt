@@ -1,6 +1,6 @@
 //! The spanning tree of one bridge.
 
-ghost use Rattle.std.specs.Prelude.{◌≡◌, map, IfOk, IsSome, Some, true, false};
+ghost use Rattle.std.specs.Prelude.{◌≡◌, ◌↔◌, map, IfOk, IsSome, IsTrue, Some, true, false};
 ghost use Rattle.pb_rstp.specs.Laws.{IsInLine};
 ghost use Rattle.pb_rstp.specs.Ports.{start, fresh, port_of};
 ghost use Rattle.pb_rstp.specs.Readings.{AreAbove, numbers_of, roles_of, states_of, root_of, vector_at, stored_at};
@@ -9,7 +9,7 @@ ghost use Rattle.pb_rstp.specs.Roles.{IsRootVector};
 ghost use Rattle.pb_rstp.specs.Vectors.{bridge_id};
 
 use crate::config::{Config, RstpPort, bridge_id};
-use crate::port::{Port, port_of};
+use crate::port::{Port, are_same, port_of};
 use crate::role::Role;
 use crate::roles::root_vector;
 use crate::vector::Vector;
@@ -180,6 +180,17 @@ impl Rstp {
         let root = root_vector(self.id, &self.ports);
         let port = port_of(&self.ports, port).unwrap();
         port.designated_vector(self.id, &root)
+    }
+
+    /// Returns whether another bridge has the same identifier, the same hello timer, and ports with the same variables
+    /// and timers: whether no later call could tell the two apart. Allocates nothing.
+    pub fn is_same(&self, other: &Rstp) -> bool
+        ensures { IsTrue result ↔ (self.now ≡ other.now) }
+    {
+        self.id == other.id
+            && self.prompt == other.prompt
+            && self.hello_when == other.hello_when
+            && are_same(&self.ports, &other.ports)
     }
 
     /// Returns the vector that a port stores (IEEE 802.1D-2004 clause 17.19.21, portPriority), or None if it stores

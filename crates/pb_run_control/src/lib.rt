@@ -17,6 +17,6 @@ mod steering;
 mod traffic;
 mod views;
 
-pub use progress::{Opening, PeerChange, RunProgress};
+pub use progress::{Opening, PeerChange, RunProgress, SocketFailure};
 pub use steering::Steering;
 pub use traffic::Traffic;

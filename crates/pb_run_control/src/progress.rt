@@ -29,6 +29,25 @@ pub enum PeerChange {
     },
 }
 
+/// The failed calls of a customer port's socket for datagrams since they were last reported.
+#[derive(Clone, Copy, PartialEq, Eq, Debug)]
+pub enum SocketFailure {
+    /// The system did not take datagrams. Their frames are dropped.
+    Unsent {
+        /// The number of these frames.
+        frames: u64,
+        /// The newest error, as `errno` of POSIX.1-2017 has it.
+        error: i32,
+    },
+    /// The system failed to return datagrams.
+    Unreceived {
+        /// The number of receives that failed.
+        receives: u64,
+        /// The newest error, as `errno` of POSIX.1-2017 has it.
+        error: i32,
+    },
+}
+
 /// A gate that receives the progress of its run.
 pub trait RunProgress: Gate {
     /// Receives that frames may enter. They were held back until the bridges converged.
@@ -47,4 +66,7 @@ pub trait RunProgress: Gate {
 
     /// Receives that the peer of the customer port of this name has changed.
     fn peer(&self, _port: &str, _change: PeerChange) {}
+
+    /// Receives that calls of the socket of the customer port of this name have failed, once a second at most.
+    fn socket(&self, _port: &str, _failure: SocketFailure) {}
 }

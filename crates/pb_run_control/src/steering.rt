@@ -5,7 +5,7 @@ ghost use Rattle.pb_lan.specs.Plans.{IsSound};
 
 use crate::course::{Course, courses_of};
 use crate::peers::Peers;
-use crate::progress::{Opening, PeerChange, RunProgress};
+use crate::progress::{Opening, PeerChange, RunProgress, SocketFailure};
 use crate::traffic::Traffic;
 use pb_control_socket::Control;
 use pb_frame::Memory;
@@ -327,6 +327,10 @@ impl<G: RunProgress> RunProgress for Steering<'_, G> {
             }
         }
         self.gate.peer(port, change);
+    }
+
+    fn socket(&self, port: &str, failure: SocketFailure) {
+        self.gate.socket(port, failure);
     }
 
     fn seconds(&self) -> u64 {

@@ -62,3 +62,9 @@ pub has_begun_more : (a b c : Option (List Deed)) (all rest ds left whole : List
     → rest ≡ ds ++ left → Adds b c ds → all ≡ whole → HasBegun a c whole
 has_begun_more a b c all rest ds left whole begun next done same =
     (left, subst (λ deeds. Begun a c deeds left) same (begun_more a b c all rest ds left begun next done))
+
+-- a beginning after which nothing was done
+pub has_begun_still : (a b c : Option (List Deed)) (all rest whole : List Deed) → Begun a b all rest → c ≡ b
+    → all ≡ whole → HasBegun a c whole
+has_begun_still a b c all rest whole begun still same =
+    (rest, subst (λ deeds. Begun a c deeds rest) same (subst (λ after. Begun a after all rest) (sym still) begun))

@@ -1,4 +1,5 @@
 pub mod Deeds
+pub mod Addresses
 pub mod OpenFaults
 pub mod Uses
 pub mod Opened

@@ -5,6 +5,7 @@
 //! Begin with [`open_all`] in `opened.rt`.
 #![tactic(auto)]
 
+mod addresses;
 mod deed;
 mod one_port;
 mod open_fault;
@@ -13,6 +14,6 @@ mod openings;
 mod uses;
 
 pub use deed::Deed;
-pub use open_fault::{FileUser, OpenFault, PathFault, SharedFile, Verb};
+pub use open_fault::{ExposedPort, FileUser, OpenFault, PathFault, SharedFile, Verb};
 pub use opened::{Opened, open_all};
 pub use openings::Openings;

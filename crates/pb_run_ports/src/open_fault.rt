@@ -7,8 +7,9 @@ ghost use Rattle.pb_run_ports.specs.declared.open_fault.OpenFault.TheVariants.{M
 use pb_frame::{Memory, Text};
 use std::alloc::{AllocFailed, Global};
 use std::io::{Error, ErrorKind};
+use std::net::SocketAddr;
 
-/// The use that a port makes of a path.
+/// The use that a port makes of a path or an address.
 #[derive(Clone, Copy, Debug, PartialEq, Eq)]
 pub enum Verb {
     /// It reads the file.
@@ -19,6 +20,8 @@ pub enum Verb {
     Connect,
     /// It makes the socket.
     Listen,
+    /// It binds a socket for datagrams to the address.
+    Bind,
 }
 
 /// A user of a file. A port goes by its place in the plan, from 0.
@@ -26,20 +29,22 @@ pub enum Verb {
 pub enum FileUser {
     /// The run itself, which read its plan from the file.
     Plan,
+    /// The run itself, whose report goes to the file: it is standard output.
+    Report,
     /// A port that reads it.
     Reader(usize),
     /// A port that writes it.
     Writer(usize),
 }
 
-/// A path that a port could not use.
+/// A path or an address that a port could not use.
 #[derive(Debug, Drop)]
 pub struct PathFault {
     /// The port's place in the plan, from 0.
     pub place: usize,
-    /// The use that the port would make of the path.
+    /// The use that the port would make of it.
     pub verb: Verb,
-    /// The path. It is empty if an allocation for it failed.
+    /// The path, or the address in its usual form. It is empty if an allocation for it failed.
     pub path: Text,
     /// The error of the system.
     pub error: Error,
@@ -56,15 +61,26 @@ pub struct SharedFile {
     pub other: FileUser,
 }
 
+/// A port that would bind an address at which other hosts reach it.
+#[derive(Clone, Copy, Debug, PartialEq, Eq)]
+pub struct ExposedPort {
+    /// The port's place in the plan, from 0.
+    pub place: usize,
+    /// The address, which is not loopback.
+    pub local: SocketAddr,
+}
+
 /// A reason why the ports of a plan are not opened.
 #[derive(Debug, Drop)]
 pub enum OpenFault {
-    /// A file can't be opened or made, or a socket can't be connected to or made. No file was emptied.
+    /// A file can't be opened or made, or a socket can't be connected to, made or bound. No file was emptied.
     Unopened(PathFault),
     /// All were open, and a file can't be emptied. Those of earlier ports are empty.
     Unemptied(PathFault),
-    /// One file would be written twice, written and read, or written over the plan. Nothing was opened.
+    /// One file would be written twice, written and read, or written over the plan or the report. Nothing was opened.
     Shared(SharedFile),
+    /// A port would bind an address that is not loopback, and the network is not allowed. Nothing was opened.
+    Exposed(ExposedPort),
     /// An allocation failed. No file was emptied.
     Memory,
 }
@@ -85,7 +101,8 @@ impl<T: Drop> From<AllocFailed<T>> for OpenFault {
     }
 }
 
-/// Returns the fault of a path that can't be opened: `Memory` if the system was out of memory, else `Unopened`.
+/// Returns the fault of a path or an address that can't be opened: `Memory` if the system was out of memory, else
+/// `Unopened`.
 pub(crate) fn unopened(place: usize, verb: Verb, path: Text, error: Error) -> OpenFault
     ensures { IsUnopened result }
 {

@@ -1,26 +1,29 @@
 //! Opening the ports of a plan: first files to read and sockets, then files to write, and no file is emptied before all
 //! are open.
 
-ghost use Rattle.std.specs.Prelude.{◌≡◌, true, [], map, IfSome, IfOk, IfErr, OnOk};
+ghost use Rattle.std.specs.Prelude.{◌≡◌, true, [], map, IfSome, IfOk, IfErr, OnOk, MatchResult};
 ghost use Rattle.std.specs.List.{flat_map};
+ghost use Rattle.pb_run_ports.specs.Addresses.{Admits};
 ghost use Rattle.pb_run_ports.specs.Deeds.{Adds, HasBegun};
 ghost use Rattle.pb_run_ports.specs.OpenFaults.{IsUnopened, IsUnemptied};
 ghost use Rattle.pb_run_ports.specs.Opened.{asked, deeds_of, emptied, entering, shown, written};
-ghost use Rattle.pb_run_ports.specs.Opened.{HasStopped, StopsAt};
+ghost use Rattle.pb_run_ports.specs.Opened.{HasStopped, StopsAt, StopsUnadmitted};
 ghost use Rattle.pb_run_ports.specs.Uses.{are_apart};
 
+use crate::addresses::check_addresses;
 use crate::one_port::{empty_out, forget_out, open_in, open_out};
 use crate::open_fault::{OpenFault, SharedFile};
 use crate::openings::Openings;
 use crate::uses::{Clash, find_clash};
 use bytes::Bytes;
 use pb_frame::{Memory, Seq, Text};
-use pb_service::{Pace, PortSpec, Stamp};
+use pb_service::{LengthField, Pace, PortSpec, Stamp};
 use std::alloc::Global;
+use std::net::SocketAddr;
 
 /// The open files or the open socket of a port.
 #[derive(Drop)]
-pub enum Opened<I, O, S> {
+pub enum Opened<I, O, S, U> {
     /// Nothing is open: a script in memory, with the frames that enter.
     Memory(Seq<Bytes>),
     /// The file that the port reads and the file that it writes.
@@ -62,10 +65,21 @@ pub enum Opened<I, O, S> {
         stream: S,
         /// Whether the port stays when its peer leaves.
         stays: bool,
+        /// The octets of the length before each frame.
+        framing: LengthField,
+    },
+    /// The socket for its datagrams.
+    Udp {
+        /// The socket.
+        socket: U,
+        /// The address of its peer.
+        remote: SocketAddr,
+        /// The VXLAN network of its datagrams, or `None` if each is a frame alone.
+        network: Option<u32>,
     },
 }
 
-/// Opens the files that the ports read, and makes their sockets or connects to them, in the order of the plan.
+/// Opens the files that the ports read, and makes, connects to or binds their sockets, in the order of the plan.
 ///
 /// # Errors
 ///
@@ -74,7 +88,7 @@ fn open_ins<O: Openings>(
     alloc: Global,
     opener: &mut O,
     specs: Vec<PortSpec>,
-) -> Result<Vec<Opened<O::Input, (), O::Stream>>, OpenFault>
+) -> Result<Vec<Opened<O::Input, (), O::Stream, O::Datagrams>>, OpenFault>
     ensures ok { IfOk result (λ ports. Adds (O.done opener.old) (O.done opener.new) (flat_map entering specs.items)
         × (map shown ports.items ≡ map asked specs.items)) }
     ensures err { IfErr result (λ e. IsUnopened e
@@ -83,7 +97,7 @@ fn open_ins<O: Openings>(
     let mut ports = Vec::new(alloc);
     for spec in specs {
         let place = ports.len();
-        let port = open_in(opener, place, spec)?;
+        let port = open_in(alloc, opener, place, spec)?;
         ports.push(port)?;
     }
     Ok(ports)
@@ -97,8 +111,8 @@ fn open_ins<O: Openings>(
 /// `Unopened` at the first that fails, `Memory` if an allocation failed.
 fn open_outs<O: Openings>(
     opener: &mut O,
-    ports: Vec<Opened<O::Input, (), O::Stream>>,
-    whole: &mut Vec<Opened<O::Input, O::Output, O::Stream>>,
+    ports: Vec<Opened<O::Input, (), O::Stream, O::Datagrams>>,
+    whole: &mut Vec<Opened<O::Input, O::Output, O::Stream, O::Datagrams>>,
 ) -> Result<(), OpenFault>
     requires { whole.old.items ≡ [] }
     ensures ok { OnOk result (Adds (O.done opener.old) (O.done opener.new) (written (map shown ports.items))
@@ -115,7 +129,10 @@ fn open_outs<O: Openings>(
 }
 
 /// Closes the outputs of ports, and removes the files that the openings made.
-fn forget_outs<O: Openings>(opener: &mut O, ports: Vec<Opened<O::Input, O::Output, O::Stream>>)
+fn forget_outs<O: Openings>(
+    opener: &mut O,
+    ports: Vec<Opened<O::Input, O::Output, O::Stream, O::Datagrams>>,
+)
     ensures { O.done opener.new ≡ O.done opener.old }
 {
     for port in ports {
@@ -131,8 +148,8 @@ fn forget_outs<O: Openings>(opener: &mut O, ports: Vec<Opened<O::Input, O::Outpu
 fn open_all_outs<O: Openings>(
     alloc: Global,
     opener: &mut O,
-    ports: Vec<Opened<O::Input, (), O::Stream>>,
-) -> Result<Vec<Opened<O::Input, O::Output, O::Stream>>, OpenFault>
+    ports: Vec<Opened<O::Input, (), O::Stream, O::Datagrams>>,
+) -> Result<Vec<Opened<O::Input, O::Output, O::Stream, O::Datagrams>>, OpenFault>
     ensures ok { IfOk result (λ whole. Adds (O.done opener.old) (O.done opener.new) (written (map shown ports.items))
         × (map shown whole.items ≡ map shown ports.items)) }
     ensures err { IfErr result (λ e. IsUnopened e
@@ -156,7 +173,7 @@ fn open_all_outs<O: Openings>(
 fn empty_outs<O: Openings>(
     alloc: Global,
     opener: &mut O,
-    ports: &[Opened<O::Input, O::Output, O::Stream>],
+    ports: &[Opened<O::Input, O::Output, O::Stream, O::Datagrams>],
 ) -> Result<(), OpenFault>
     ensures ok { OnOk result (Adds (O.done opener.old) (O.done opener.new) (emptied (map shown ports.now))) }
     ensures err { IfErr result (λ e. IsUnemptied e
@@ -177,7 +194,7 @@ fn open_apart<O: Openings>(
     alloc: Global,
     opener: &mut O,
     specs: Vec<PortSpec>,
-) -> Result<Vec<Opened<O::Input, O::Output, O::Stream>>, OpenFault>
+) -> Result<Vec<Opened<O::Input, O::Output, O::Stream, O::Datagrams>>, OpenFault>
     ensures ok { IfOk result (λ ports. Adds (O.done opener.old) (O.done opener.new) (deeds_of specs.items)
         × (map shown ports.items ≡ map asked specs.items)) }
     ensures err { IfErr result (λ e. HasStopped e (O.done opener.old) (O.done opener.new) specs.items) }
@@ -201,13 +218,17 @@ fn shared(alloc: Global, specs: &[PortSpec], clash: Clash) -> Result<SharedFile,
     })
 }
 
-/// Opens the ports of a plan by the kinds that its plan file gives, which was read at `plan_path`.
+/// Opens the ports of a plan by the kinds that its plan file gives, which was read at `plan_path`. `allows_network`
+/// says whether ports may bind addresses that are not loopback.
 ///
-/// First every file to read is opened, and every socket is made or connected to, in the order of the plan. Then every
-/// file to write is opened: it keeps its contents, and is made if it is missing. When all are open, the files to write
-/// are emptied.
+/// First every file to read is opened, and every socket is made, connected to or bound, in the order of the plan. Then
+/// every file to write is opened: it keeps its contents, and is made if it is missing. When all are open, the files to
+/// write are emptied.
 ///
 /// # Errors
+///
+/// `Exposed` at the first port that would bind an address that is not loopback, unless the network is allowed. Nothing
+/// was opened then.
 ///
 /// `Shared` if a file would be written by two ports, would be written and read, or is the plan file and would be
 /// written. Nothing was opened then.
@@ -223,14 +244,18 @@ pub fn open_all<O: Openings>(
     opener: &mut O,
     plan_path: &str,
     specs: Vec<PortSpec>,
-) -> Result<Vec<Opened<O::Input, O::Output, O::Stream>>, OpenFault>
+    allows_network: bool,
+) -> Result<Vec<Opened<O::Input, O::Output, O::Stream, O::Datagrams>>, OpenFault>
     ensures ok { IfOk result (λ ports. Adds (O.done opener.old) (O.done opener.new) (deeds_of specs.items)
         × (map shown ports.items ≡ map asked specs.items)) }
+    ensures admitted { MatchResult result (λ _. Admits allows_network specs.items)
+        (λ e. StopsUnadmitted e allows_network specs.items) }
     ensures apart { OnOk result (IfSome (O.named opener.old) (λ name. are_apart name plan_path.now specs.items
         ≡ true)) }
     ensures err { IfErr result (λ e. StopsAt e (O.named opener.old) plan_path.now (O.done opener.old)
         (O.done opener.new) specs.items) }
 {
+    check_addresses(specs.as_slice(), allows_network)?;
     match find_clash(alloc, opener, plan_path, specs.as_slice())? {
         None => open_apart(alloc, opener, specs),
         Some(clash) => Err(OpenFault::Shared(shared(alloc, specs.as_slice(), clash)?)),

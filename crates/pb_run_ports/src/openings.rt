@@ -5,11 +5,12 @@ ghost use Rattle.pb_run_ports.specs.Deeds.{Adds};
 ghost use Rattle.pb_run_ports.specs.declared.deed.Deed.{Deed};
 ghost use Rattle.pb_run_ports.specs.declared.deed.Deed.TheVariants.{Read as reads, Connect as connects};
 ghost use Rattle.pb_run_ports.specs.declared.deed.Deed.TheVariants.{Listen as listens, Write as writes};
-ghost use Rattle.pb_run_ports.specs.declared.deed.Deed.TheVariants.{Empty as empties};
+ghost use Rattle.pb_run_ports.specs.declared.deed.Deed.TheVariants.{Empty as empties, Bind as binds};
 
 use pb_frame::{Memory, Text};
 use std::alloc::Global;
 use std::io;
+use std::net::SocketAddr;
 
 /// An opener of files and sockets: the operating system, or a replacement for tests.
 ///
@@ -23,6 +24,9 @@ pub trait Openings {
 
     /// The stream of a socket.
     type Stream: Drop;
+
+    /// A socket for datagrams.
+    type Datagrams: Drop;
 
     /// The operations so far, in order, if they are known.
     ghost done: { Self → Option (List Deed) } = { λ _. None };
@@ -64,6 +68,15 @@ pub trait Openings {
     /// The error of the system. Nothing was done then.
     fn listen(&mut self, path: &str, stays: bool) -> io::Result<Self::Stream>
         ensures ok { OnOk result (Adds (done self.old) (done self.new) (listens path.now ∷ [])) }
+        ensures err { OnErr result (done self.new ≡ done self.old) };
+
+    /// Binds a socket for datagrams to an address. It is not connected to a peer.
+    ///
+    /// # Errors
+    ///
+    /// The error of the system. Nothing was done then.
+    fn bind(&mut self, local: SocketAddr) -> io::Result<Self::Datagrams>
+        ensures ok { OnOk result (Adds (done self.old) (done self.new) (binds local ∷ [])) }
         ensures err { OnErr result (done self.new ≡ done self.old) };
 
     /// Opens a file for writing, and makes it if it is missing. Its contents stay.

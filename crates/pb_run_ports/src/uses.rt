@@ -10,6 +10,9 @@ use pb_frame::{Memory, Text};
 use pb_service::PortSpec;
 use std::alloc::Global;
 
+/// The path of standard output, to which the report goes.
+const REPORT: &str = "/dev/stdout";
+
 /// A use of a file.
 #[derive(Drop)]
 pub(crate) struct FileUse {
@@ -34,15 +37,15 @@ fn writes(user: FileUser) -> bool
 {
     match user {
         FileUser::Writer(_) => true,
-        FileUser::Reader(_) | FileUser::Plan => false,
+        FileUser::Reader(_) | FileUser::Plan | FileUser::Report => false,
     }
 }
 
-/// Returns the place in the plan, from 0, of a port that uses a file, and 0 for the plan itself.
+/// Returns the place in the plan, from 0, of a port that uses a file, and 0 for the run itself.
 fn place_of(user: FileUser) -> usize {
     match user {
         FileUser::Reader(place) | FileUser::Writer(place) => place,
-        FileUser::Plan => 0,
+        FileUser::Plan | FileUser::Report => 0,
     }
 }
 
@@ -133,12 +136,12 @@ fn put_uses<O: Openings>(
             let user = FileUser::Reader(place);
             put_use(alloc, opener, uses, user, read.as_str())
         }
-        PortSpec::Memory(_) | PortSpec::Socket { .. } => Ok(()),
+        PortSpec::Memory(_) | PortSpec::Socket { .. } | PortSpec::Udp { .. } => Ok(()),
     }
 }
 
 /// Returns the first conflict of the ports, if there is one: a file that a port would write and that has another use.
-/// The plan was read at `plan_path`.
+/// The plan was read at `plan_path`, and the report goes to standard output.
 ///
 /// # Errors
 ///
@@ -154,6 +157,7 @@ pub(crate) fn find_clash<O: Openings>(
 {
     let mut uses = Vec::new(alloc);
     put_use(alloc, opener, &mut uses, FileUser::Plan, plan_path)?;
+    put_use(alloc, opener, &mut uses, FileUser::Report, REPORT)?;
     for (place, spec) in specs.iter().enumerate() {
         put_uses(alloc, opener, &mut uses, place, spec)?;
     }

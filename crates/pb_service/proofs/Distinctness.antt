@@ -45,7 +45,7 @@ pub distinct_next : {X K : Type 0} (e : K → K → Bool) (f : X → K) (xs new 
 distinct_next e f xs new x d h is = rw (is, map-append f xs (x ∷ []))
     (distinct_last e (map f xs) (f x) d (list_any-map (λ k. e k (f x)) f xs ∙ h))
 
-same-flip : (a b : List ℕ) → same a b ≡ false → same b a ≡ false
+pub same-flip : (a b : List ℕ) → same a b ≡ false → same b a ≡ false
 same-flip a b h = false-unless (same b a) (λ t. let again : same a b ≡ true = rw (same-one b a t) (same-self a)
     in true-false (same a b) again h)
 

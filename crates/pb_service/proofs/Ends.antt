@@ -22,10 +22,10 @@ use Rattle.pb_service.specs.Formats.{link_keys}
 use Rattle.pb_service.specs.Told.{rows_of}
 use Rattle.pb_service.specs.Tables.{IsLinkOf, IsCustomerOf, IsPortSpecOf, IsRead, IsReadPort}
 use Rattle.pb_service.specs.UsedPorts.{is_used, port_of}
-use Rattle.pb_service.specs.Refusals.{Refuses, RefusesStamp, RefusesPace, RefusesFiles, no_clock, vain_speed}
+use Rattle.pb_service.specs.Refusals.{Refuses, RefusesStamp, RefusesPace, RefusesFiles, RefusesPort, no_clock}
 use Rattle.pb_service.specs.Refusals.{HasTables, RefusesLink, CustomerLacks, link_ports}
 use Rattle.pb_service.specs.Refusals.{customer_ports, names_of, network_limits, used_twice, no_bridge, no_service}
-use Rattle.pb_service.specs.Refusals.{no_listed, doubled, no_time, no_memory}
+use Rattle.pb_service.specs.Refusals.{no_listed, doubled, no_time, vain_speed, two_families, no_memory}
 use Rattle.pb_service.proofs.Refusing.{Table, passed_on}
 use Rattle.pb_service.proofs.Allowed.{number_below}
 
@@ -222,14 +222,21 @@ files_refused : (document row : Members) (i : ℕ) (e : PlanFault) → slice_get
 files_refused document row i e at (inl h) = pace_refused document row i e at h
 files_refused document row i e at (inr h) = stamp_refused document row i e at h
 
-pub files_passed : {X : Type 0} (document row : Members) (limits : Limits) (i : ℕ) (r : Result X PlanFault)
+port_spec_refused : (document row : Members) (i : ℕ) (e : PlanFault)
+    → slice_get (rows_of document Port) i ≡ Some row
+    → RefusesPort (network_limits document) i row e → Refuses document e
+port_spec_refused document row i e at (inl h) = files_refused document row i e at h
+port_spec_refused document row i e at (inr (inl m)) = rw m (no_memory document)
+port_spec_refused document row i e at (inr (inr (t, apart))) = rw t (two_families document i row at apart)
+
+pub port_spec_passed : {X : Type 0} (document row : Members) (limits : Limits) (i : ℕ) (r : Result X PlanFault)
     (e : PlanFault)
     → limits ≡ network_limits document → slice_get (rows_of document Port) i ≡ Some row
-    → ((y : PlanFault) × (r ≡ Err y) × (y ≡ e)) → RefusesFiles limits i row e
+    → ((y : PlanFault) × (r ≡ Err y) × (y ≡ e)) → RefusesPort limits i row e
     → IfErr r (Refuses document)
-files_passed document row limits i r e el at p h =
+port_spec_passed document row limits i r e el at p h =
     passed_on (Refuses document) r e p
-    (files_refused document row i e at (subst (λ (l : Limits). RefusesFiles l i row e) el h))
+    (port_spec_refused document row i e at (subst (λ (l : Limits). RefusesPort l i row e) el h))
 
 pub specs_whole : (document : Members) (limits : Limits) (specs : List PortSpec) → limits ≡ network_limits document
     → AllZip (IsPortSpecOf limits) (rows_of document Port) specs

@@ -10,22 +10,7 @@ use Rattle.toml.specs.Data.{Data, as_str}
 use Rattle.toml.specs.View.{view, items_view}
 use Rattle.toml.specs.declared.value.Value.{Value}
 use Rattle.pb_service.specs.Tables.{AreFrames}
-use Rattle.pb_service.specs.Values.{all_items, any_item, are_distinct, is_hex, is_text, text_in}
-
-pub distinct_stop : (vs : List Value) (i : ℕ) (d x : Value) (t : List ℕ) (later : List Value) → i < length vs
-    → x ≡ get_or vs i d → t ≡ text_in (view x) → later ≡ drop (i + 1) vs
-    → any_item (is_text (same t)) (items_view later) ≡ true → are_distinct (items_view (drop i vs)) ≡ false
-distinct_stop vs i d x t later h ex et el has =
-    let here = rw (el, et, ex) at has in
-    rw (drop_more vs i d h, here)
-
-pub distinct_on : (vs : List Value) (i : ℕ) (d x : Value) (t : List ℕ) (later : List Value) → i < length vs
-    → x ≡ get_or vs i d → t ≡ text_in (view x) → later ≡ drop (i + 1) vs
-    → any_item (is_text (same t)) (items_view later) ≡ false
-    → are_distinct (items_view (drop i vs)) ≡ are_distinct (items_view (drop (i + 1) vs))
-distinct_on vs i d x t later h ex et el has =
-    let here = rw (el, et, ex) at has in
-    rw (drop_more vs i d h, here)
+use Rattle.pb_service.specs.Values.{all_items, any_item, is_hex, is_text, text_in}
 
 pub any_at : (test : Data → Bool) (vs : List Value) (i : ℕ) (d x : Value) → i < length vs → x ≡ get_or vs i d
     → test (view x) ≡ true → any_item test (items_view vs) ≡ true
@@ -38,7 +23,7 @@ any_at test (v ∷ vs) (suc i) d x h is t =
     ]
 
 -- a test that all items pass holds of the item at an index
-all_at : (test : Data → Bool) (vs : List Value) (i : ℕ) (d x : Value) → all_items test (items_view vs) ≡ true
+pub all_at : (test : Data → Bool) (vs : List Value) (i : ℕ) (d x : Value) → all_items test (items_view vs) ≡ true
     → i < length vs → x ≡ get_or vs i d → test (view x) ≡ true
 all_at test [] i d x a h is = absurd (omega arith)
 all_at test (v ∷ vs) zero d x a h is = rw is (and-left (test (view v)) (all_items test (items_view vs)) a)

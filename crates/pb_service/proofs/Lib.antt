@@ -11,3 +11,5 @@ pub mod Ends
 pub mod Distinctness
 pub mod Allowed
 pub mod Soundness
+pub mod Texts
+pub mod Addresses

@@ -4,7 +4,7 @@ use Rattle.pb_frame.specs.Admission.{same}
 use Rattle.toml.specs.Data.{Members, get_member}
 use Rattle.pb_service.specs.declared.section.Section.{Section}
 use Rattle.pb_service.specs.declared.section.Section.TheVariants.{Bridge, Link, Service, Port, Event, Tap}
-use Rattle.pb_service.specs.declared.rule.Rule.TheVariants.{Number, BridgePriority, PortPriority, Name, Address, Spanning, Queues, State, PortKind, Stamp, Replay, Direction, Path, Losses, Names, Frames, Flag, FlagOrAuto}
+use Rattle.pb_service.specs.declared.rule.Rule.TheVariants.{Number, BridgePriority, PortPriority, Name, Address, Spanning, Queues, State, PortKind, Stamp, Replay, Direction, Path, Framing, SocketAddress, Encap, Losses, Names, Frames, Flag, FlagOrAuto}
 use Rattle.pb_service.specs.Keys.{KeyRule, with_default, without_default}
 use Rattle.pb_service.specs.Told.{has_key, text_told}
 
@@ -67,22 +67,31 @@ service_keys =
     ∷ without_default (codes "vid") (Number 1 4094)
     ∷ []
 
+-- the datagrams of a customer port are frames alone
+abbrev pub is_bare : Members → Bool
+is_bare row = same (text_told (get_member (codes "encap") row)) (codes "none")
+
 -- the keys of one kind of customer port alone, of which a port over a socket has the path at which it listens or to
--- which it connects
-abbrev pub own_keys : List ℕ → Bool → List KeyRule
-own_keys kind listens =
+-- which it connects, and a port over datagrams the network of their header if they have one
+abbrev pub own_keys : List ℕ → Bool → Bool → List KeyRule
+own_keys kind listens bare =
     if same kind (codes "capture") then
     without_default (codes "read") Path ∷ with_default (codes "replay") Replay ∷ with_default (codes "speed") (Number 1 1000)
     ∷ without_default (codes "write") Path ∷ with_default (codes "stamp") Stamp ∷ []
     else if same kind (codes "record") then without_default (codes "write") Path ∷ with_default (codes "stamp") Stamp ∷ []
     else if same kind (codes "replay") then
     without_default (codes "read") Path ∷ with_default (codes "replay") Replay ∷ with_default (codes "speed") (Number 1 1000) ∷ []
-    else if same kind (codes "socket") then without_default (if listens then codes "listen" else codes "path") Path ∷ with_default (codes "stay") Flag ∷ []
+    else if same kind (codes "socket") then
+    without_default (if listens then codes "listen" else codes "path") Path ∷ with_default (codes "stay") Flag
+    ∷ with_default (codes "framing") Framing ∷ []
+    else if same kind (codes "udp") then
+    without_default (codes "local") SocketAddress ∷ without_default (codes "remote") SocketAddress
+    ∷ with_default (codes "encap") Encap ∷ (if bare then [] else without_default (codes "vni") (Number 0 16777215) ∷ [])
     else with_default (codes "in") Frames ∷ []
 
-abbrev pub port_keys : List ℕ → Bool → List KeyRule
 -- the keys of one kind of customer port: those of every kind, followed by its own
-port_keys kind listens =
+abbrev pub port_keys : List ℕ → Bool → Bool → List KeyRule
+port_keys kind listens bare =
     without_default (codes "name") Name
     ∷ without_default (codes "bridge") Name
     ∷ without_default (codes "port") (Number 1 16)
@@ -90,7 +99,7 @@ port_keys kind listens =
     ∷ with_default (codes "pcp") (Number 0 7)
     ∷ with_default (codes "queue") (Number 1 4096)
     ∷ with_default (codes "kind") PortKind
-    ∷ own_keys kind listens
+    ∷ own_keys kind listens bare
 
 -- the keys of an event
 abbrev pub event_keys : List KeyRule
@@ -115,6 +124,6 @@ abbrev pub keys_of : Section → Members → List KeyRule
 keys_of Bridge row = bridge_keys
 keys_of Link row = link_keys
 keys_of Service row = service_keys
-keys_of Port row = port_keys (text_told (get_member (codes "kind") row)) (has_key row (codes "listen"))
+keys_of Port row = port_keys (text_told (get_member (codes "kind") row)) (has_key row (codes "listen")) (is_bare row)
 keys_of Event row = event_keys
 keys_of Tap row = tap_keys

@@ -21,7 +21,7 @@ use Rattle.pb_service.specs.Keys.{RefusesRow, SomeOf, first_unknown}
 use Rattle.pb_service.specs.Formats.{top_keys, network_keys, event_keys, tap_keys, keys_of}
 use Rattle.pb_service.specs.Told.{rows_of, has_key, names_in, number_from, table_told, spanning_of}
 use Rattle.pb_service.specs.Clocks.{lacks_time, lacks_clock, RefusesClocks, RefusesPrompt}
-use Rattle.pb_service.specs.Tables.{number_at, text_at, items_at, is_one_of, doubled_key, has_vain_speed, limits_told, prompt_told}
+use Rattle.pb_service.specs.Tables.{number_at, text_at, items_at, is_one_of, doubled_key, has_vain_speed, HasTwoFamilies, limits_told, prompt_told}
 
 -- there is no value, or it is a table
 abbrev pub is_table : Option Data → Bool
@@ -146,6 +146,9 @@ pub data Refuses : Members → PlanFault → Type 0 where
   vain_speed : (document : Members) (index : ℕ) (row : Members)
       → slice_get (rows_of document Port) index ≡ Some row → has_vain_speed row ≡ true
       → Refuses document (Range (path_at (Row Port index) (codes "speed")))
+  two_families : (document : Members) (index : ℕ) (row : Members)
+      → slice_get (rows_of document Port) index ≡ Some row → HasTwoFamilies row
+      → Refuses document (Range (path_at (Row Port index) (codes "remote")))
   in_event : (document : Members) (index : ℕ) (row : Members) (fault : PlanFault)
       → slice_get (rows_of document Event) index ≡ Some row → RefusesEvent (names_of document Bridge) (ends_told document) index row fault → Refuses document fault
   in_tap : (document : Members) (index : ℕ) (row : Members) (fault : PlanFault)
@@ -203,3 +206,12 @@ RefusesPace limits index row fault =
 -- a port has such a pace or such a stamp
 abbrev pub RefusesFiles : Limits → ℕ → Members → PlanFault → Type 0
 RefusesFiles limits index row fault = RefusesPace limits index row fault ⊎ RefusesStamp limits index row fault
+
+-- the two addresses of a port are of different families, or an allocation failed
+abbrev pub RefusesRemote : ℕ → Members → PlanFault → Type 0
+RefusesRemote index row fault =
+    (fault ≡ Memory) ⊎ ((fault ≡ Range (path_at (Row Port index) (codes "remote"))) × HasTwoFamilies row)
+
+-- a port has such a pace, such a stamp or such addresses
+abbrev pub RefusesPort : Limits → ℕ → Members → PlanFault → Type 0
+RefusesPort limits index row fault = RefusesFiles limits index row fault ⊎ RefusesRemote index row fault

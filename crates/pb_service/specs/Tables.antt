@@ -2,6 +2,9 @@
 use Rattle.std.specs.Prelude.{◌≡◌, ℕ, codes, Bool, true, false, not, ◌&&◌, List, [], ◌∷◌, take, Some, None, if◌then◌else◌}
 use Rattle.std.specs.declared.option.Option.{Option}
 use Rattle.std.specs.List.{list_any}
+use Rattle.std.specs.Net.Addr.{is_ipv4}
+use Rattle.std.specs.Net.Socket.{socket_ip}
+use Rattle.std.specs.declared.net.SocketAddr.{SocketAddr}
 use Rattle.pb_frame.specs.Admission.{same}
 use Rattle.pb_frame.specs.Hex.{IsHex, IsMacText}
 use Rattle.toml.specs.Data.{Data, Items, no_items, item, Members, get_member}
@@ -15,15 +18,16 @@ use Rattle.pb_lan.specs.declared.limits.Limits.{Limits}
 use Rattle.pb_service.specs.declared.link.EndKeys.{EndKeys}
 use Rattle.pb_service.specs.declared.network.Network.{Network}
 use Rattle.pb_service.specs.declared.port_spec.PortSpec.{PortSpec}
+use Rattle.pb_service.specs.declared.port_spec.LengthField.{LengthField}
 use Rattle.pb_service.specs.declared.port_spec.Stamp.{Stamp}
 use Rattle.pb_service.specs.declared.port_spec.Pace.{Pace}
 use Rattle.pb_service.specs.declared.port_spec.Pace.TheVariants.{AtOnce, Times}
-use Rattle.pb_service.specs.declared.port_spec.PortSpec.TheVariants.{Memory, Capture, Record, Replay, Socket}
-use Rattle.pb_service.specs.Values.{text_in, all_items}
+use Rattle.pb_service.specs.declared.port_spec.PortSpec.TheVariants.{Memory, Capture, Record, Replay, Socket, Udp}
+use Rattle.pb_service.specs.Values.{text_in, all_items, IsSocketAddress}
 use Rattle.pb_service.specs.Clocks.{has_two_clocks, holds_forever, is_vainly_prompt, lacks_time, lacks_clock}
 use Rattle.pb_service.specs.Keys.{KeyRule, IsAccepted}
-use Rattle.pb_service.specs.Formats.{network_keys, port_keys}
-use Rattle.pb_service.specs.Told.{has_key, number_told, text_told, items_told, stamp_of, state_of, spanning_of, queues_of, flag_told, flag_in, naturals_in, number_from, listed_from}
+use Rattle.pb_service.specs.Formats.{network_keys, is_bare, port_keys}
+use Rattle.pb_service.specs.Told.{has_key, number_told, text_told, items_told, stamp_of, framing_of, state_of, spanning_of, queues_of, flag_told, flag_in, naturals_in, number_from, listed_from}
 
 -- the number at a key of a table, or the default, and never above the highest
 abbrev pub number_at : Members → List ℕ → ℕ → ℕ → ℕ
@@ -187,11 +191,32 @@ abbrev pub IsPaceOf : Limits → Members → Pace → Type 0
 IsPaceOf limits row pace =
     (pace ≡ pace_of row) × (lacks_clock limits (has_key row (codes "replay")) ≡ false) × (has_vain_speed row ≡ false)
 
+-- two addresses are both of IPv4 or both of IPv6
+abbrev pub AreOneFamily : SocketAddr → SocketAddr → Type 0
+AreOneFamily a b = is_ipv4 (socket_ip a) ≡ is_ipv4 (socket_ip b)
+
+-- the two addresses that a table gives
+abbrev pub AreAddressesOf : Members → SocketAddr → SocketAddr → Type 0
+AreAddressesOf row local remote =
+    IsSocketAddress (text_at row (codes "local")) local × IsSocketAddress (text_at row (codes "remote")) remote
+
+-- the two addresses that a table gives are of different families
+abbrev pub HasTwoFamilies : Members → Type 0
+HasTwoFamilies row = (local remote : SocketAddr) × AreAddressesOf row local remote × (AreOneFamily local remote → ⊥)
+
+-- the network in the header of each datagram, if datagrams have one
+abbrev pub network_told : Members → Option ℕ
+network_told row = if is_bare row then None else Some (number_at row (codes "vni") 0 16777215)
+
+-- the octets of the length before each frame of a stream
+abbrev pub framing_told : Members → LengthField
+framing_told row = framing_of (number_at row (codes "framing") 2 4)
+
 -- the kind of customer port that a table describes: a port with the key `listen` makes its socket
 abbrev pub IsPortSpecOf : Limits → Members → PortSpec → Type 0
 IsPortSpecOf limits row (Memory frames) =
     (has_kind row (codes "capture") ≡ false) × (has_kind row (codes "record") ≡ false) × (has_kind row (codes "replay") ≡ false)
-    × (has_kind row (codes "socket") ≡ false) × AreFrames (items_at row (codes "in")) frames
+    × (has_kind row (codes "socket") ≡ false) × (has_kind row (codes "udp") ≡ false) × AreFrames (items_at row (codes "in")) frames
 IsPortSpecOf limits row (Capture read pace write stamp) =
     (has_kind row (codes "capture") ≡ true) × (read ≡ text_at row (codes "read")) × IsPaceOf limits row pace
     × (write ≡ text_at row (codes "write")) × IsStampOf limits row stamp
@@ -199,9 +224,12 @@ IsPortSpecOf limits row (Record write stamp) =
     (has_kind row (codes "record") ≡ true) × (write ≡ text_at row (codes "write")) × IsStampOf limits row stamp
 IsPortSpecOf limits row (Replay read pace) =
     (has_kind row (codes "replay") ≡ true) × (read ≡ text_at row (codes "read")) × IsPaceOf limits row pace
-IsPortSpecOf limits row (Socket path listens stays) =
+IsPortSpecOf limits row (Socket path listens stays framing) =
     (has_kind row (codes "socket") ≡ true) × (listens ≡ has_key row (codes "listen"))
     × (path ≡ text_at row (if listens then codes "listen" else codes "path")) × (stays ≡ flag_told (get_member (codes "stay") row))
+    × (framing ≡ framing_told row)
+IsPortSpecOf limits row (Udp local remote network) =
+    (has_kind row (codes "udp") ≡ true) × AreAddressesOf row local remote × AreOneFamily local remote × (network ≡ network_told row)
 
 -- a table that keeps the rules of its keys, and what it describes
 pub record IsRead {X : Type 0} (Tells : Members → X → Type 0) (keys : List KeyRule) (row : Members) (x : X) : Type 0 where
@@ -210,5 +238,5 @@ pub record IsRead {X : Type 0} (Tells : Members → X → Type 0) (keys : List K
 
 -- a table of a customer port that keeps the rules of the keys of its kind, and what it describes
 pub record IsReadPort {X : Type 0} (Tells : Members → X → Type 0) (row : Members) (x : X) : Type 0 where
-  pub accepted : IsAccepted (port_keys (text_at row (codes "kind")) (has_key row (codes "listen"))) row
+  pub accepted : IsAccepted (port_keys (text_at row (codes "kind")) (has_key row (codes "listen")) (is_bare row)) row
   pub told : Tells row x

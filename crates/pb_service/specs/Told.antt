@@ -1,5 +1,5 @@
 -- The value at a key of a table, with a default.
-use Rattle.std.specs.Prelude.{ℕ, Bool, false, suc, ◌+◌, codes, min, List, [], ◌∷◌, ◌++◌, map, Some, None, unwrap_or, if◌then◌else◌, is_some}
+use Rattle.std.specs.Prelude.{ℕ, Bool, false, suc, ◌+◌, ◌==◌, codes, min, List, [], ◌∷◌, ◌++◌, map, Some, None, unwrap_or, if◌then◌else◌, is_some}
 use Rattle.std.specs.declared.option.Option.{Option}
 use Rattle.std.specs.Option.{option_map_or, option_and_then, option_to_list}
 use Rattle.pb_frame.specs.Admission.{same}
@@ -10,6 +10,8 @@ use Rattle.pb_lan.specs.declared.plan.Queues.{Queues}
 use Rattle.pb_lan.specs.declared.plan.Queues.TheVariants.{PerPort, PerClass}
 use Rattle.pb_lan.specs.declared.plan.Spanning.{Spanning}
 use Rattle.pb_lan.specs.declared.plan.Spanning.TheVariants.{Fixed, Rstp}
+use Rattle.pb_service.specs.declared.port_spec.LengthField.{LengthField}
+use Rattle.pb_service.specs.declared.port_spec.LengthField.TheVariants.{Two, Four}
 use Rattle.pb_service.specs.declared.port_spec.Stamp.{Stamp}
 use Rattle.pb_service.specs.declared.port_spec.Stamp.TheVariants.{Ticks, Time}
 use Rattle.pb_service.specs.declared.section.Section.{Section}
@@ -57,6 +59,10 @@ queues_of text = if same text (codes "class") then PerClass else PerPort
 
 abbrev pub stamp_of : List ℕ → Stamp
 stamp_of text = if same text (codes "time") then Time else Ticks
+
+-- four octets of length if the number is 4, and two if it is any other
+abbrev pub framing_of : ℕ → LengthField
+framing_of octets = if octets == 4 then Four else Two
 
 -- one direction if the text names it, and both if it is any other
 abbrev pub direction_of : List ℕ → TapDirection

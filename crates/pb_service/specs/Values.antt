@@ -1,15 +1,18 @@
 -- Which values of a TOML document are allowed, and what they denote.
-use Rattle.std.specs.Prelude.{◌≡◌, ℕ, suc, pos, negsuc, ℤ, codes, ◌%◌, nat_le, ◌==◌, Bool, true, false, ◌&&◌, ◌||◌, not, List, [], length, Some, None, is_some, unwrap_or}
+use Rattle.std.specs.Prelude.{◌≡◌, ◌<◌, ℕ, suc, pos, negsuc, ℤ, codes, ◌%◌, nat_le, ◌==◌, Bool, true, false, ◌&&◌, ◌||◌, not, List, [], length, Some, None, is_some, unwrap_or}
 use Rattle.std.specs.declared.option.Option.{Option}
 use Rattle.std.specs.Option.{option_map_or, option_and_then}
 use Rattle.std.specs.List.{list_all}
+use Rattle.std.specs.Net.Grammar.{IsSocketText}
+use Rattle.std.specs.Net.Socket.{socket_port}
+use Rattle.std.specs.declared.net.SocketAddr.{SocketAddr}
 use Rattle.pb_frame.specs.Admission.{same}
 use Rattle.pb_frame.specs.Frames.{is_group}
 use Rattle.pb_frame.specs.Hex.{is_digit, IsMacText}
 use Rattle.pb_lan.specs.Names.{is_name}
 use Rattle.toml.specs.Data.{Data, Items, no_items, item, as_str, as_integer, as_array, as_bool}
 use Rattle.pb_service.specs.declared.rule.Rule.{Rule}
-use Rattle.pb_service.specs.declared.rule.Rule.TheVariants.{Number, BridgePriority, PortPriority, Name, Address, Spanning, Queues, State, PortKind, Stamp, Replay, Direction, Path, Losses, Names, Frames, Flag, FlagOrAuto}
+use Rattle.pb_service.specs.declared.rule.Rule.TheVariants.{Number, BridgePriority, PortPriority, Name, Address, Spanning, Queues, State, PortKind, Stamp, Replay, Direction, Path, Framing, SocketAddress, Encap, Losses, Names, Frames, Flag, FlagOrAuto}
 
 -- the number of an integer that isn't negative
 abbrev pub to_natural : ℤ → Option ℕ
@@ -50,6 +53,13 @@ text_in d = unwrap_or (as_str d) []
 abbrev pub IsAddress : List ℕ → Type 0
 IsAddress text = (octets : List ℕ) × IsMacText text octets × (is_group octets ≡ false)
 
+-- the text denotes this socket address, whose port is not 0
+abbrev pub IsSocketAddress : List ℕ → SocketAddr → Type 0
+IsSocketAddress text a = IsSocketText text a × (0 < socket_port a)
+
+abbrev pub HasSocketAddress : List ℕ → Type 0
+HasSocketAddress text = (a : SocketAddr) × IsSocketAddress text a
+
 -- numbers that aren't below the least, each above the one before
 abbrev pub rise_from : ℕ → Items → Bool
 rise_from least no_items = true
@@ -65,6 +75,7 @@ abbrev pub is_of_kind : Rule → Data → Bool
 is_of_kind (Number low high) d = is_some (as_integer d)
 is_of_kind BridgePriority d = is_some (as_integer d)
 is_of_kind PortPriority d = is_some (as_integer d)
+is_of_kind Framing d = is_some (as_integer d)
 is_of_kind Losses d = is_list (all_items (λ e. is_some (as_integer e))) d
 is_of_kind Names d = is_list (all_items (λ e. is_some (as_str e))) d
 is_of_kind Frames d = is_list (all_items (λ e. is_some (as_str e))) d
@@ -77,7 +88,7 @@ abbrev pub is_file_kind : List ℕ → Bool
 is_file_kind t = same t (codes "capture") || (same t (codes "record") || same t (codes "replay"))
 
 abbrev pub is_port_kind : List ℕ → Bool
-is_port_kind t = same t (codes "memory") || (is_file_kind t || same t (codes "socket"))
+is_port_kind t = same t (codes "memory") || (is_file_kind t || (same t (codes "socket") || same t (codes "udp")))
 
 -- the rule allows the value
 abbrev pub IsAllowed : Rule → Data → Type 0
@@ -94,6 +105,9 @@ IsAllowed Stamp d = is_text (λ t. same t (codes "ticks") || same t (codes "time
 IsAllowed Replay d = is_text (same (codes "times")) d ≡ true
 IsAllowed Direction d = is_text (λ t. same t (codes "ab") || (same t (codes "ba") || same t (codes "both"))) d ≡ true
 IsAllowed Path d = is_some (as_str d) ≡ true
+IsAllowed Framing d = is_natural (λ n. n == 2 || n == 4) d ≡ true
+IsAllowed SocketAddress d = HasSocketAddress (text_in d)
+IsAllowed Encap d = is_text (λ t. same t (codes "vxlan") || same t (codes "none")) d ≡ true
 IsAllowed Losses d = is_list (rise_from 0) d ≡ true
 IsAllowed Names d = is_list (λ ds. all_items (is_text is_name) ds && are_distinct ds) d ≡ true
 IsAllowed Frames d = is_list (all_items (is_text is_hex)) d ≡ true

@@ -3,7 +3,7 @@
 ghost use Rattle.std.specs.Prelude.{◌≡◌};
 ghost use Rattle.toml.specs.View.{table_view};
 ghost use Rattle.pb_service.specs.Keys.{rules_of};
-ghost use Rattle.pb_service.specs.Formats.{network_keys, port_keys, keys_of};
+ghost use Rattle.pb_service.specs.Formats.{network_keys, is_bare, port_keys, keys_of};
 
 use crate::rule::{Key, Rule};
 use crate::section::Section;
@@ -119,12 +119,32 @@ static REPLAY: [Key; 10] = port_keys![
 ];
 
 /// The keys of a customer port that connects to a socket.
-static SOCKET: [Key; 9] = port_keys![needed!("path", Rule::Path), optional!("stay", Rule::Flag)];
+static SOCKET: [Key; 10] = port_keys![
+    needed!("path", Rule::Path),
+    optional!("stay", Rule::Flag),
+    optional!("framing", Rule::Framing),
+];
 
 /// The keys of a customer port that listens at a socket.
-static LISTENER: [Key; 9] = port_keys![
+static LISTENER: [Key; 10] = port_keys![
     needed!("listen", Rule::Path),
-    optional!("stay", Rule::Flag)
+    optional!("stay", Rule::Flag),
+    optional!("framing", Rule::Framing),
+];
+
+/// The keys of a customer port over datagrams with a VXLAN header.
+static UDP: [Key; 11] = port_keys![
+    needed!("local", Rule::SocketAddress),
+    needed!("remote", Rule::SocketAddress),
+    optional!("encap", Rule::Encap),
+    needed!("vni", 0..=16_777_215),
+];
+
+/// The keys of a customer port over datagrams that are frames alone.
+static BARE_UDP: [Key; 10] = port_keys![
+    needed!("local", Rule::SocketAddress),
+    needed!("remote", Rule::SocketAddress),
+    optional!("encap", Rule::Encap),
 ];
 
 /// The keys of an event.
@@ -150,9 +170,17 @@ pub(crate) fn network_keys() -> &'static [Key]
     &NETWORK
 }
 
-/// Returns the keys of a customer port of a kind. A port over a socket has other keys if it listens.
-fn port_keys(kind: &str, listens: bool) -> &'static [Key]
-    ensures { rules_of result.now ≡ port_keys kind.now listens }
+/// Returns whether the datagrams of a customer port are to be frames alone.
+pub(crate) fn is_bare(row: &Table) -> bool
+    ensures { result ≡ is_bare (table_view row.now) }
+{
+    text_at(row, "encap") == "none"
+}
+
+/// Returns the keys of a customer port of a kind. A port over a socket has other keys if it listens, and a port over
+/// datagrams if they are frames alone.
+fn port_keys(kind: &str, listens: bool, is_bare: bool) -> &'static [Key]
+    ensures { rules_of result.now ≡ port_keys kind.now listens is_bare }
 {
     if kind == "capture" {
         &CAPTURE
@@ -162,6 +190,8 @@ fn port_keys(kind: &str, listens: bool) -> &'static [Key]
         &REPLAY
     } else if kind == "socket" {
         if listens { &LISTENER } else { &SOCKET }
+    } else if kind == "udp" {
+        if is_bare { &BARE_UDP } else { &UDP }
     } else {
         &MEMORY
     }
@@ -175,7 +205,7 @@ pub(crate) fn keys_of(section: Section, row: &Table) -> &'static [Key]
         Section::Bridge => &BRIDGE,
         Section::Link => &LINK,
         Section::Service => &SERVICE,
-        Section::Port => port_keys(text_at(row, "kind"), has_key(row, "listen")),
+        Section::Port => port_keys(text_at(row, "kind"), has_key(row, "listen"), is_bare(row)),
         Section::Event => &EVENT,
         Section::Tap => &TAP,
     }

@@ -22,6 +22,7 @@ mod service;
 mod table;
 mod tap;
 mod told;
+mod udp;
 mod used;
 mod values;
 
@@ -29,5 +30,5 @@ pub use document::{PlanFile, read_limits, read_plan, read_plan_file};
 pub use event::PortEvent;
 pub use fault::PlanFault;
 pub use pb_lan::Limits;
-pub use port_spec::{Pace, PortSpec, Stamp};
+pub use port_spec::{LengthField, Pace, PortSpec, Stamp};
 pub use tap::{TapDirection, TapSpec};

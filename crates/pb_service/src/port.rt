@@ -7,13 +7,14 @@ ghost use Rattle.pb_frame.specs.Admission.{same};
 ghost use Rattle.pb_frame.specs.Hex.{IsHex};
 ghost use Rattle.pb_service.specs.Values.{all_items, is_text, is_hex};
 ghost use Rattle.pb_service.specs.Keys.{IsAccepted};
-ghost use Rattle.pb_service.specs.Formats.{port_keys};
+ghost use Rattle.pb_service.specs.Formats.{port_keys, is_bare};
 ghost use Rattle.pb_service.specs.Clocks.{lacks_time, lacks_clock};
 ghost use Rattle.pb_service.specs.Told.{has_key, rows_of};
 ghost use Rattle.pb_service.specs.Tables.{has_kind, AreFrames, IsStampOf, IsPaceOf, IsPortSpecOf, IsCustomerOf};
 ghost use Rattle.pb_service.specs.Tables.{IsReadPort, text_at, has_vain_speed, pace_of};
 ghost use Rattle.pb_service.specs.UsedPorts.{AreUsedOnce};
-ghost use Rattle.pb_service.specs.Refusals.{Refuses, RefusesStamp, RefusesPace, RefusesFiles, HasTables, CustomerLacks};
+ghost use Rattle.pb_service.specs.Refusals.{Refuses, RefusesStamp, RefusesPace, RefusesFiles, RefusesPort};
+ghost use Rattle.pb_service.specs.Refusals.{HasTables, CustomerLacks};
 ghost use Rattle.pb_service.specs.Refusals.{names_of, network_limits, link_ports, ports_told};
 ghost use Rattle.pb_service.specs.declared.fault.PlanFault.TheVariants.{Memory as memory_fault};
 ghost use Rattle.pb_service.specs.declared.section.Section.TheVariants.{Bridge as bridge_section, Link as link_section};
@@ -28,7 +29,8 @@ use crate::port_spec::{Pace, PortSpec, Stamp};
 use crate::row::told;
 use crate::section::{KeyTable, Section};
 use crate::table::{names_of, tables_at};
-use crate::told::{copy_at, flag_at, has_key, items_at, number_at, stamp_of, text_at};
+use crate::told::{copy_at, flag_at, framing_at, has_key, items_at, number_at, stamp_of, text_at};
+use crate::udp::{addresses_of, network_of};
 use crate::used::{LocalPort, use_port};
 use crate::values::text_in;
 use bytes::Bytes;
@@ -215,12 +217,12 @@ fn socket_path(alloc: Global, row: &Table, listens: bool) -> Result<Text, PlanFa
     }
 }
 
-/// Returns the kind of customer port that a table describes, with its frames or paths.
+/// Returns the kind of customer port that a table describes, with its frames, paths or addresses.
 ///
 /// # Errors
 ///
-/// `Range` if its stamp or its pace needs a clock that ticks by time and none does, or there is a speed without a pace
-/// by times, `Memory` if an allocation failed.
+/// `Range` if its stamp or its pace needs a clock that ticks by time and none does, there is a speed without a pace by
+/// times, or its addresses are of different families. `Memory` if an allocation failed.
 fn port_spec_of(
     alloc: Global,
     limits: Limits,
@@ -228,9 +230,9 @@ fn port_spec_of(
     index: usize,
 ) -> Result<PortSpec, PlanFault>
     requires { IsAccepted (port_keys (text_at (table_view row.now) (codes "kind"))
-        (has_key (table_view row.now) (codes "listen"))) (table_view row.now) }
+        (has_key (table_view row.now) (codes "listen")) (is_bare (table_view row.now))) (table_view row.now) }
     ensures ok { IfOk result (IsPortSpecOf limits (table_view row.now)) }
-    ensures err { IfErr result (RefusesFiles limits index (table_view row.now)) }
+    ensures err { IfErr result (RefusesPort limits index (table_view row.now)) }
 {
     let kind = text_at(row, "kind");
     if kind == "capture" {
@@ -244,12 +246,21 @@ fn port_spec_of(
     }
     if kind == "socket" {
         let listens = has_key(row, "listen");
-        let stays = flag_at(row, "stay");
         let path = socket_path(alloc, row, listens)?;
         return Ok(PortSpec::Socket {
             path,
             listens,
-            stays,
+            stays: flag_at(row, "stay"),
+            framing: framing_at(row, "framing"),
+        });
+    }
+    if kind == "udp" {
+        let (local, remote) = addresses_of(alloc, row, index)?;
+        let network = network_of(row);
+        return Ok(PortSpec::Udp {
+            local,
+            remote,
+            network,
         });
     }
     let frames = frames_of(alloc, items_at(row, "in"))?;

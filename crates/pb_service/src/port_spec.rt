@@ -6,6 +6,7 @@ ghost use Rattle.pb_service.specs.Lossless.{is_socket, is_lossless};
 
 use bytes::Bytes;
 use pb_frame::{Seq, Text};
+use std::net::SocketAddr;
 
 /// The time stamp of a record in a capture file.
 #[derive(Clone, Copy, PartialEq, Eq, Debug)]
@@ -25,7 +26,16 @@ pub enum Pace {
     Times(u16),
 }
 
-/// A kind of customer port, with its frames or paths.
+/// The octets of the length before each frame of a stream.
+#[derive(Clone, Copy, PartialEq, Eq, Debug)]
+pub enum LengthField {
+    /// Two octets.
+    Two,
+    /// Four octets.
+    Four,
+}
+
+/// A kind of customer port, with its frames, paths or addresses.
 #[derive(PartialEq, Debug, Drop)]
 pub enum PortSpec {
     /// A script in memory: the frames that enter, in order.
@@ -63,14 +73,25 @@ pub enum PortSpec {
         listens: bool,
         /// Whether the port stays when its peer leaves, and takes the next one. Otherwise it has one peer.
         stays: bool,
+        /// The octets of the length before each frame.
+        framing: LengthField,
+    },
+    /// UDP datagrams, each with one frame, between two addresses of one family. The port of neither is 0.
+    Udp {
+        /// The address at which datagrams arrive.
+        local: SocketAddr,
+        /// The address to which datagrams are sent, and the only one from which they are taken.
+        remote: SocketAddr,
+        /// The network in the VXLAN header before each frame, 0 to 16,777,215. `None` if a datagram is a frame alone.
+        network: Option<u32>,
     },
 }
 
-/// Returns whether the port is a socket.
+/// Returns whether the port is a stream socket or sends datagrams.
 fn is_socket(port: &PortSpec) -> bool
     ensures { result ≡ is_socket port.now }
 {
-    matches!(port, PortSpec::Socket { .. })
+    matches!(port, PortSpec::Socket { .. } | PortSpec::Udp { .. })
 }
 
 /// Returns whether one of the ports is a socket.

@@ -1,7 +1,7 @@
 //! Checks of a table against the rules of its keys.
 
 ghost use Rattle.std.specs.Prelude.{◌≡◌, ◌⊎◌, option_map, option_copied, find, not};
-ghost use Rattle.std.specs.Prelude.{OnOk, IfErr, IfNone, IfSome, None, string_bytes};
+ghost use Rattle.std.specs.Prelude.{OnOk, IfOk, IfErr, IfNone, IfSome, None, string_bytes};
 ghost use Rattle.std.specs.BTreeMap.{keys};
 ghost use Rattle.toml.specs.Data.{get_member};
 ghost use Rattle.toml.specs.View.{view, table_view};
@@ -20,30 +20,36 @@ use crate::section::{KeyTable, path_at};
 use crate::told::value_at;
 use crate::values::{is_allowed, is_of_kind};
 use pb_frame::Text;
-use std::alloc::Global;
+use std::alloc::{AllocError, Global};
 use toml::{Table, Value};
 
 /// Returns the rule that the value at a key breaks, if it breaks one. `None` for the value means that the key is
 /// missing.
-fn refusal(key: &Key, value: Option<&Value>) -> Option<KeyFault>
-    ensures none { IfNone result (IsTaken (rule_of key.now) (option_map (λ v. view v.now) value.entry)) }
-    ensures some { IfSome result (λ fault.
-        IsRefused (rule_of key.now) (option_map (λ v. view v.now) value.entry) fault) }
+///
+/// # Errors
+///
+/// `AllocError` if an allocation failed.
+fn refusal(alloc: Global, key: &Key, value: Option<&Value>) -> Result<Option<KeyFault>, AllocError>
+    ensures none { IfOk result (λ found.
+        IfNone found (IsTaken (rule_of key.now) (option_map (λ v. view v.now) value.entry))) }
+    ensures some { IfOk result (λ found. IfSome found (λ fault.
+        IsRefused (rule_of key.now) (option_map (λ v. view v.now) value.entry) fault)) }
 {
     let Some(value) = value else {
-        return if key.needed {
+        return Ok(if key.needed {
             Some(KeyFault::Missing)
         } else {
             None
-        };
+        });
     };
-    if is_allowed(key.rule, value) {
-        None
-    } else if is_of_kind(key.rule, value) {
-        Some(KeyFault::Range)
-    } else {
-        Some(KeyFault::Kind)
+    if is_allowed(alloc, key.rule, value)? {
+        return Ok(None);
     }
+    Ok(Some(if is_of_kind(key.rule, value) {
+        KeyFault::Range
+    } else {
+        KeyFault::Kind
+    }))
 }
 
 /// Returns the fault of a key, with its path.
@@ -113,7 +119,8 @@ pub(crate) fn check_keys(
     ensures err { IfErr result (RefusesRow (rules_of keys.now) key_table (table_view row.now)) }
 {
     for key in keys {
-        if let Some(fault) = refusal(key, value_at(row, key.name)) {
+        let found = refusal(alloc, key, value_at(row, key.name))?;
+        if let Some(fault) = found {
             return Err(told(alloc, key_table, key.name, fault));
         }
     }

@@ -19,7 +19,7 @@ pub(crate) enum Rule {
     Queues,
     /// The state of a port: `discarding`, `learning` or `forwarding`.
     State,
-    /// The kind of a customer port: `memory`, `capture`, `record`, `replay` or `socket`.
+    /// The kind of a customer port: `memory`, `capture`, `record`, `replay`, `socket` or `udp`.
     PortKind,
     /// The time stamps of the records of a capture: `ticks` or `time`.
     Stamp,
@@ -29,6 +29,12 @@ pub(crate) enum Rule {
     Direction,
     /// Any text.
     Path,
+    /// The octets of the length before each frame of a stream: 2 or 4.
+    Framing,
+    /// A socket address whose port is not 0, as `127.0.0.1:4790` or `[::1]:4790`.
+    SocketAddress,
+    /// What precedes the frame of a datagram: `vxlan` or `none`.
+    Encap,
     /// A list of numbers that rises strictly.
     Losses,
     /// A list of distinct names.

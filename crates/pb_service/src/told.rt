@@ -5,11 +5,11 @@ ghost use Rattle.toml.specs.Data.{get_member};
 ghost use Rattle.toml.specs.View.{view, items_view, table_view};
 ghost use Rattle.pb_service.specs.Told.{number_told, flag_told, flag_in, text_told, items_told, state_of, spanning_of};
 ghost use Rattle.pb_service.specs.Told.{naturals_in, number_from, listed_from, has_key, queues_of, stamp_of};
-ghost use Rattle.pb_service.specs.Told.{direction_of};
+ghost use Rattle.pb_service.specs.Told.{direction_of, framing_of};
 ghost use Rattle.pb_service.specs.declared.fault.PlanFault.TheVariants.{Memory as memory_fault};
 
 use crate::fault::PlanFault;
-use crate::port_spec::Stamp;
+use crate::port_spec::{LengthField, Stamp};
 use crate::tap::TapDirection;
 use crate::values::{has_text, natural_of, text_in};
 use pb_frame::{Seq, Text};
@@ -143,6 +143,24 @@ pub(crate) fn stamp_of(text: &str) -> Stamp
     } else {
         Stamp::Ticks
     }
+}
+
+/// Returns the length field with this number of octets. Any other number than 4 means two octets.
+fn framing_of(octets: u64) -> LengthField
+    ensures { result ≡ framing_of octets }
+{
+    if octets == 4 {
+        LengthField::Four
+    } else {
+        LengthField::Two
+    }
+}
+
+/// Returns the length field before each frame of a stream.
+pub(crate) fn framing_at(table: &Table, key: &str) -> LengthField
+    ensures { result ≡ framing_of (number_told 2 4 (get_member key.now (table_view table.now))) }
+{
+    framing_of(number_at(table, key, 2, 4))
 }
 
 /// Returns the directions that a tap records. Any other text than `ab` and `ba` means both.

@@ -1,6 +1,6 @@
 //! Checks of the values of a TOML document.
 
-ghost use Rattle.std.specs.Prelude.{◌≡◌, false, ◌+◌, ◌^◌, ◌<◌, ◌↔◌, IsTrue, IsSome, IfSome, IfNone};
+ghost use Rattle.std.specs.Prelude.{◌≡◌, true, false, ◌+◌, ◌^◌, ◌<◌, ◌↔◌, IsTrue, IsSome, IfSome, IfNone, IfOk};
 ghost use Rattle.std.specs.Prelude.{nat_le, ◌==◌, ◌%◌, ◌&&◌, ◌||◌, is_some, codes, List, ℕ};
 ghost use Rattle.std.specs.List.{list_all};
 ghost use Rattle.toml.specs.Data.{as_str, as_integer, as_bool};
@@ -14,7 +14,10 @@ ghost use Rattle.pb_service.specs.Values.{is_file_kind, is_port_kind};
 ghost use Rattle.pb_service.specs.Values.{text_in, IsAddress, rise_from, are_distinct, is_of_kind, IsAllowed};
 
 use crate::rule::Rule;
+use crate::udp::socket_address;
 use pb_frame::Mac;
+use std::alloc::{AllocError, Global};
+use std::collections::BTreeSet;
 use toml::Value;
 
 /// Returns the number of an integer that isn't negative.
@@ -62,6 +65,16 @@ fn is_port_priority(value: &Value) -> bool
 {
     match natural_of(value) {
         Some(n) => n % 16 == 0 && n <= 240,
+        None => false,
+    }
+}
+
+/// Returns whether the value is 2 or 4.
+fn is_framing(value: &Value) -> bool
+    ensures { result ≡ is_natural (λ n. n == 2 || n == 4) (view value.now) }
+{
+    match natural_of(value) {
+        Some(n) => n == 2 || n == 4,
         None => false,
     }
 }
@@ -159,12 +172,14 @@ fn is_file_kind(text: &str) -> bool
     text == "capture" || (text == "record" || text == "replay")
 }
 
-/// Returns whether the value is `memory`, `capture`, `record`, `replay` or `socket`.
+/// Returns whether the value is `memory`, `capture`, `record`, `replay`, `socket` or `udp`.
 fn is_port_kind(value: &Value) -> bool
     ensures { result ≡ is_text is_port_kind (view value.now) }
 {
     match value.as_str() {
-        Some(text) => text == "memory" || (is_file_kind(text) || text == "socket"),
+        Some(text) => {
+            text == "memory" || (is_file_kind(text) || (text == "socket" || text == "udp"))
+        }
         None => false,
     }
 }
@@ -184,6 +199,16 @@ fn is_replay(value: &Value) -> bool
     ensures { result ≡ is_text (same (codes "times")) (view value.now) }
 {
     is_same(value, "times")
+}
+
+/// Returns whether the value is `vxlan` or `none`.
+fn is_encap(value: &Value) -> bool
+    ensures { result ≡ is_text (λ t. same t (codes "vxlan") || same t (codes "none")) (view value.now) }
+{
+    match value.as_str() {
+        Some(text) => text == "vxlan" || text == "none",
+        None => false,
+    }
 }
 
 /// Returns whether the value is `ab`, `ba` or `both`.
@@ -284,17 +309,25 @@ fn is_same(value: &Value, text: &str) -> bool
     }
 }
 
-/// Returns whether no text occurs twice among the items.
-fn are_distinct(items: &[Value]) -> bool
-    ensures { result ≡ are_distinct (items_view items.now) }
+/// Checks whether no text occurs twice among the items, which are names.
+///
+/// # Errors
+///
+/// `AllocError` if an allocation failed.
+fn are_distinct(alloc: Global, items: &[Value]) -> Result<bool, AllocError>
+    requires { all_items (is_text is_name) (items_view items.now) ≡ true }
+    ensures { IfOk result (λ distinct. distinct ≡ are_distinct (items_view items.now)) }
 {
-    for (index, item) in items.iter().enumerate() {
-        let (_, later) = items.split_at(index + 1);
-        if has_text(later, text_in(item)) {
-            return false;
+    let mut seen = BTreeSet::new(alloc);
+    for index in (0..items.len()).rev() {
+        let Ok(is_new) = seen.insert(text_in(&items[index])) else {
+            return Err(AllocError);
+        };
+        if !is_new {
+            return Ok(false);
         }
     }
-    true
+    Ok(true)
 }
 
 /// Returns whether the value is of the TOML type that the rule requires. The items of a list are checked too.
@@ -302,7 +335,9 @@ pub(crate) fn is_of_kind(rule: Rule, value: &Value) -> bool
     ensures { result ≡ is_of_kind rule (view value.now) }
 {
     match rule {
-        Rule::Number { .. } | Rule::BridgePriority | Rule::PortPriority => value.is_integer(),
+        Rule::Number { .. } | Rule::BridgePriority | Rule::PortPriority | Rule::Framing => {
+            value.is_integer()
+        }
         Rule::Losses => match value.as_array() {
             Some(items) => are_integers(items.as_slice()),
             None => false,
@@ -322,15 +357,21 @@ pub(crate) fn is_of_kind(rule: Rule, value: &Value) -> bool
         | Rule::Stamp
         | Rule::Replay
         | Rule::Direction
-        | Rule::Path => value.is_str(),
+        | Rule::Path
+        | Rule::SocketAddress
+        | Rule::Encap => value.is_str(),
     }
 }
 
-/// Returns whether the rule allows the value.
-pub(crate) fn is_allowed(rule: Rule, value: &Value) -> bool
-    ensures { IsTrue result ↔ IsAllowed rule (view value.now) }
+/// Checks whether the rule allows the value.
+///
+/// # Errors
+///
+/// `AllocError` if an allocation failed.
+pub(crate) fn is_allowed(alloc: Global, rule: Rule, value: &Value) -> Result<bool, AllocError>
+    ensures { IfOk result (λ allowed. IsTrue allowed ↔ IsAllowed rule (view value.now)) }
 {
-    match rule {
+    let is_allowed = match rule {
         Rule::Number { low, high } => is_number(value, low, high),
         Rule::BridgePriority => is_bridge_priority(value),
         Rule::PortPriority => is_port_priority(value),
@@ -344,12 +385,16 @@ pub(crate) fn is_allowed(rule: Rule, value: &Value) -> bool
         Rule::Replay => is_replay(value),
         Rule::Direction => is_direction(value),
         Rule::Path => value.is_str(),
+        Rule::Framing => is_framing(value),
+        Rule::SocketAddress => socket_address(text_in(value)).is_some(),
+        Rule::Encap => is_encap(value),
         Rule::Losses => are_losses(value),
-        Rule::Names => are_listed(value),
+        Rule::Names => are_listed(alloc, value)?,
         Rule::Frames => are_frames(value),
         Rule::Flag => value.is_bool(),
         Rule::FlagOrAuto => value.is_bool() || is_same(value, "auto"),
-    }
+    };
+    Ok(is_allowed)
 }
 
 /// Returns whether the value is a list of numbers that rises strictly.
@@ -362,13 +407,18 @@ fn are_losses(value: &Value) -> bool
     }
 }
 
-/// Returns whether the value is a list of distinct names.
-fn are_listed(value: &Value) -> bool
-    ensures { result ≡ is_list (λ ds. all_items (is_text is_name) ds && are_distinct ds) (view value.now) }
+/// Checks whether the value is a list of distinct names.
+///
+/// # Errors
+///
+/// `AllocError` if an allocation failed.
+fn are_listed(alloc: Global, value: &Value) -> Result<bool, AllocError>
+    ensures { IfOk result (λ listed.
+        listed ≡ is_list (λ ds. all_items (is_text is_name) ds && are_distinct ds) (view value.now)) }
 {
     match value.as_array() {
-        Some(items) => are_names(items.as_slice()) && are_distinct(items.as_slice()),
-        None => false,
+        Some(items) if are_names(items.as_slice()) => are_distinct(alloc, items.as_slice()),
+        _ => Ok(false),
     }
 }
 

@@ -4,7 +4,7 @@
 //! `run_all` starts them, joins them and returns the places. What holds of a place at the start and between turns holds
 //! of the place that comes back. Workers share the slots of the places, counters, and the bells of the gate, which wake
 //! those that sleep: the rings between places belong to the places. Begin reading at `run_all`, `Worker::take_turns`
-//! and `Helper::run`.
+//! and `help_at`.
 #![tactic(auto)]
 
 mod bells;

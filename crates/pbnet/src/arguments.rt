@@ -67,17 +67,19 @@ pub(crate) fn arguments_of(
 }
 
 /// Prints the message of the parser. Returns the exit status: 0 after the help or the version, 2 if the arguments are
-/// refused, 3 if an allocation failed.
+/// refused, 3 if an allocation failed, or if the help or the version cannot be printed.
 pub(crate) fn refuse(rt: &(impl Env + Print + Eprint), error: Error) -> ExitCode
     ensures { (exit_status result ≡ 0) ⊎ (exit_status result ≡ 2) ⊎ (exit_status result ≡ 3) }
 {
     if error.kind() == ArgumentFault::OutOfMemory {
         return lack_memory(rt);
     }
-    let _ = error.print(rt);
+    let printed = error.print(rt);
     if error.use_stderr() {
-        ExitCode::from(WRONG_ARGUMENTS)
-    } else {
-        ExitCode::SUCCESS
+        return ExitCode::from(WRONG_ARGUMENTS);
+    }
+    match printed {
+        Ok(()) => ExitCode::SUCCESS,
+        Err(_) => tell(rt, CommandFault::Write),
     }
 }

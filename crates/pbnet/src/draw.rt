@@ -40,6 +40,7 @@ pub(crate) fn draw_network(
         },
         downs: options.downs.as_slice(),
         ticks: options.ticks,
+        lists: options.lists,
         format: format_of(options.format),
     };
     let drawn = match &options.output {

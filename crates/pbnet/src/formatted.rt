@@ -17,6 +17,14 @@ fn is_memory_refusal(text: &[u8]) -> bool {
     text == b"plan: 11 memory\n".as_slice()
 }
 
+/// Returns whether a line of a script's report says that memory was short. The lines of ports, links, loops and a refused
+/// plan hold names of the plan, and say no such thing.
+fn is_about_memory(line: &str) -> bool {
+    let about_names = ["port ", "link ", "loop ", "plan: "];
+    !about_names.iter().any(|lead| line.starts_with(*lead))
+        && line.split(' ').any(|word| word == "memory")
+}
+
 /// Returns the members that the document of a command begins with, for the plan file at a path.
 pub(crate) fn head<'a>(command: &'a str, plan: &'a str) -> Head<'a>
     ensures command { result.command.now ≡ command.now }
@@ -85,6 +93,15 @@ impl<'a, R: Print + AllocGlobal> Output<'a, R> {
         let mut json = json_of(self.rt.alloc(), form, &self.head, text)?;
         json.push('\n')?;
         Ok(json.into_bytes())
+    }
+
+    /// Returns whether memory was short in the report of a script that is to become a table: it says so in replies, which
+    /// a table lacks.
+    pub(crate) fn hides_memory(&self) -> bool {
+        match str::from_utf8(self.kept.as_slice()) {
+            Ok(text) => self.format == ReportFormat::Csv && text.lines().any(is_about_memory),
+            Err(_) => false,
+        }
     }
 
     /// Returns the exit status of the command, or 3 after the line `fault: memory` if a plan file was refused because

@@ -176,6 +176,7 @@ fn settings_of(options: &RunOptions, input: Option<OwnedFd>) -> RunSettings<'_> 
         },
         settles: options.settles,
         linger: options.linger,
+        allows_network: options.allows_network,
         input,
     }
 }

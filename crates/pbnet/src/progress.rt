@@ -1,11 +1,12 @@
 //! The progress of `run`, and the stop after `--seconds`.
 
 use crate::errors::Errors;
-use pb_cmd_run::{Opening, PeerChange, RunProgress, Traffic};
+use pb_cmd_run::{Opening, PeerChange, RunProgress, SocketFailure, Traffic};
 use pb_lan::Place;
 use pb_run::{Gate, Go};
 use std::alloc::{AllocError, Global};
 use std::fs::{File, Files};
+use std::io::Error;
 use std::sync::Arc;
 use std::sync::atomic::{AtomicU64, Ordering};
 use std::time::{Clock, Duration};
@@ -196,6 +197,22 @@ impl<R: Clock + Eprint + AllocGlobal + Sync> RunProgress for RunMonitor<'_, R> {
                 format!(in alloc;
                     "port {port}: peer left: {entered} {frames} in, {left} out, {dropped} dropped\n"
                 )
+            }
+        });
+    }
+
+    /// Reports on a line of its own that calls of the socket of a port have failed.
+    fn socket(&self, port: &str, failure: SocketFailure) {
+        self.close();
+        let alloc = self.rt.alloc();
+        self.offer(match failure {
+            SocketFailure::Unsent { frames, error } => {
+                let why = Error::from_raw_os_error(error);
+                format!(in alloc; "port {port}: cannot send: {why}: {frames} frames dropped\n")
+            }
+            SocketFailure::Unreceived { error, .. } => {
+                let why = Error::from_raw_os_error(error);
+                format!(in alloc; "port {port}: cannot receive: {why}\n")
             }
         });
     }

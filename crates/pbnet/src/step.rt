@@ -15,7 +15,8 @@ use std::process::ExitCode;
 const BUFFER: usize = 65_536;
 
 /// Drives the network of a plan file by the script on standard input, and prints the report in the form of the options.
-/// If `by_line`, each answer is printed at once. The findings of a test go to `errors`. Returns the exit status.
+/// If `by_line`, each answer is printed at once. The findings of a test go to `errors`. If the form is a table and memory
+/// was short, no table is printed, and `fault: memory` goes to `errors`. Returns the exit status.
 pub(crate) fn step<R: Files + Input + Print + Eprint + AllocGlobal, E: Write>(
     rt: &R,
     options: &ReportOptions,
@@ -26,6 +27,9 @@ pub(crate) fn step<R: Files + Input + Print + Eprint + AllocGlobal, E: Write>(
     let mut notes = TestNotes::new(rt.alloc());
     let status = step_on(rt, options, by_line, &mut notes, &mut out);
     let _ = errors.write_all(notes.findings());
+    if out.hides_memory() {
+        return tell_on(errors, CommandFault::Memory);
+    }
     out.end(&STEP, Some(&COUNTS), status)
 }
 

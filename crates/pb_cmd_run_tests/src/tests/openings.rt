@@ -5,10 +5,11 @@ ghost use Rattle.std.specs.Prelude.{◌≡◌, Some, IfOk};
 use bytes::Bytes;
 use pb_cmd_run::{Deed, FileUser, OpenFault, Opened, Openings, open_all};
 use pb_frame::{Memory, Seq, Text};
-use pb_service::{Pace, PortSpec, Stamp};
+use pb_service::{LengthField, Pace, PortSpec, Stamp};
 use std::alloc::{AllocError, Global};
 use std::io;
 use std::io::{Error, ErrorKind};
+use std::net::SocketAddr;
 use std::test::Fail;
 
 /// An opener that records its operations. One path can't be opened, and one can't be emptied.
@@ -40,6 +41,8 @@ impl Openings for Desk {
 
     type Stream = ();
 
+    type Datagrams = ();
+
     ghost done = { λ desk. Some desk.deeds.items };
 
     ghost named = { λ _. Some (λ path. Some path) };
@@ -64,6 +67,11 @@ impl Openings for Desk {
     fn listen(&mut self, path: &str, _stays: bool) -> io::Result<()> {
         let text = self.text(path)?;
         self.deeds.push(Deed::Listen(text))?;
+        Ok(())
+    }
+
+    fn bind(&mut self, local: SocketAddr) -> io::Result<()> {
+        self.deeds.push(Deed::Bind(local))?;
         Ok(())
     }
 
@@ -137,6 +145,7 @@ fn socket(alloc: Global, path: &str, listens: bool) -> Result<PortSpec, AllocErr
         path,
         listens,
         stays: false,
+        framing: LengthField::Two,
     })
 }
 
@@ -208,7 +217,7 @@ fn deeds_done(deeds: &[Deed], done: &[Done]) -> usize {
 }
 
 /// Returns whether this is the result.
-fn is_end(outcome: &Result<Vec<Opened<(), (), ()>>, OpenFault>, end: End) -> bool {
+fn is_end(outcome: &Result<Vec<Opened<(), (), (), ()>>, OpenFault>, end: End) -> bool {
     match (outcome, end) {
         (Ok(ports), End::Open(count)) => ports.len() == count,
         (Err(OpenFault::Unopened(fault)), End::Unopened(place, path)) => {
@@ -359,6 +368,15 @@ const ROWS: &[Row] = &[
         end: End::Shared("plan", 1, FileUser::Plan),
         forgotten: 0,
     },
+    // A port would write standard output, to which the report goes.
+    Row {
+        kinds: &[Kind::Memory, Kind::Record("/dev/stdout")],
+        missing: "",
+        stuck: "",
+        done: &[],
+        end: End::Shared("/dev/stdout", 1, FileUser::Report),
+        forgotten: 0,
+    },
     // The plan may be read.
     Row {
         kinds: &[Kind::Capture("plan", "c")],
@@ -446,7 +464,7 @@ fn seen(alloc: Global, row: &Row) -> Result<(usize, usize, bool, usize), AllocEr
         stuck: row.stuck,
         forgotten: 0,
     };
-    let outcome = open_all(alloc, &mut desk, "plan", specs);
+    let outcome = open_all(alloc, &mut desk, "plan", specs, false);
     let done = deeds_done(&desk.deeds, row.done);
     Ok((
         done,

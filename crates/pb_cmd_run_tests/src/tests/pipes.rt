@@ -162,6 +162,7 @@ where
         settles: false,
         linger: 100,
         input: None,
+        allows_network: false,
     };
     Ok(run_network(
         rt,

@@ -204,6 +204,7 @@ where
         settles: false,
         linger: 100,
         input: None,
+        allows_network: false,
     };
     let (file, lenient) = (file.as_bytes(), Strictness::Lenient);
     Ok(run_network(

@@ -147,6 +147,7 @@ where
         settles: false,
         linger: 100,
         input: None,
+        allows_network: false,
     };
     let (mut output, mut errors) = (Sheet::front(b"ended drained\n"), Sheet::whole(b""));
     let file = PLAN.as_bytes();

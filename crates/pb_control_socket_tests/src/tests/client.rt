@@ -1,5 +1,8 @@
 //! The client of the control socket, with the replies of the socket.
 
+ghost use Rattle.std.specs.Prelude.{◌≡◌, ◌≢◌, IfOk, IfErr, map, true, string_bytes};
+ghost use Rattle.pb_cmd_control.specs.Commands.{lines_of_arguments};
+ghost use Rattle.pb_cmd_control.specs.Conversations.{HasConversed, PrintsAnswers};
 ghost use Rattle.pb_lan.specs.Plans.{IsSound};
 
 use super::board::Fake;
@@ -13,7 +16,7 @@ use pb_control_socket::Control;
 use pb_fakes::{Full, Slow, Unflushed};
 use pb_lan::Plan;
 use std::alloc::{AllocError, Global};
-use std::io::ErrorKind;
+use std::io::{ErrorKind, Read, Write};
 use std::net::Net;
 use std::process::Abort;
 use std::test::Fail;
@@ -74,12 +77,36 @@ fn heard_of(
     }
 }
 
+/// Calls `converse`. Its contract says what a caller may take from the status and from the output.
+fn conversed<I: Read, Q: Write, R: Read, W: Write>(
+    alloc: Global,
+    input: &mut I,
+    requests: &mut Q,
+    answers: &mut R,
+    out: &mut W,
+) -> Result<u8, ControlFault>
+    ensures ok { IfOk result (λ status. HasConversed status (I.remaining input.old)
+        (Q.contents requests.old) (Q.contents requests.new) (R.remaining answers.old) (R.remaining answers.new)
+        (W.contents out.old) (W.contents out.new)) }
+    ensures part { IfErr result (λ e.
+        e ≢ ControlFault.Output → PrintsAnswers (W.contents out.old) (W.contents out.new)) }
+{
+    converse(alloc, input, requests, answers, out)
+}
+
+/// Calls `command_lines`. Its contract says which lines the arguments give.
+fn explained(alloc: Global, arguments: &[String]) -> Result<Vec<u8>, AllocError>
+    ensures { IfOk result (λ lines. lines.items ≡ lines_of_arguments true (map string_bytes arguments.now)) }
+{
+    command_lines(alloc, arguments)
+}
+
 /// Checks whether a conversation ends with this status, after each line was sent and each reply printed as it came.
 fn ends_with(alloc: Global, lines: &str, answers: &[u8], status: u8) -> bool {
     let (mut sent, mut printed) = (Vec::new(alloc), Vec::new(alloc));
     let mut input = one_by_one(lines.as_bytes());
     let mut came = one_by_one(answers);
-    let ended = converse(alloc, &mut input, &mut sent, &mut came, &mut printed);
+    let ended = conversed(alloc, &mut input, &mut sent, &mut came, &mut printed);
     ended == Ok(status)
         && sent.as_slice().starts_with(lines.as_bytes())
         && sent.len() <= lines.len() + 1
@@ -115,7 +142,7 @@ fn of_a_long_line_one_octet_more_than_the_limit_is_sent(rt: HostRuntime) -> Resu
     let (mut sent, mut printed) = (Vec::new(rt.alloc()), Vec::new(rt.alloc()));
     let mut input = line.as_slice();
     let mut came = one_by_one(b"bad\n");
-    let ended = converse(rt.alloc(), &mut input, &mut sent, &mut came, &mut printed);
+    let ended = conversed(rt.alloc(), &mut input, &mut sent, &mut came, &mut printed);
     assert_eq!(rt; ended, Ok(4));
     assert_eq!(rt; sent.len(), 258);
     Ok(())
@@ -138,7 +165,7 @@ fn a_run_that_hangs_up_is_reported(rt: HostRuntime) -> Result<(), Fail> {
         let (mut sent, mut out) = (Vec::new(rt.alloc()), Vec::new(rt.alloc()));
         let mut input = b"stop\nstop\n".as_slice();
         let mut came = one_by_one(answers.as_bytes());
-        let ended = converse(rt.alloc(), &mut input, &mut sent, &mut came, &mut out);
+        let ended = conversed(rt.alloc(), &mut input, &mut sent, &mut came, &mut out);
         assert!(rt; ended == Err(*fault), "{answers:?}");
         assert!(rt; out.as_slice() == printed.as_bytes(), "{answers:?}");
     }
@@ -146,18 +173,14 @@ fn a_run_that_hangs_up_is_reported(rt: HostRuntime) -> Result<(), Fail> {
 }
 
 /// Returns the fault of a conversation over an input and an output that may fail.
-fn fault_of<W: std::io::Write>(
-    alloc: Global,
-    fails_at: u64,
-    requests: &mut W,
-) -> Option<ControlFault> {
+fn fault_of<W: Write>(alloc: Global, fails_at: u64, requests: &mut W) -> Option<ControlFault> {
     let mut input = Slow {
         fails_at,
         ..one_by_one(b"stop\n")
     };
     let mut printed = Vec::new(alloc);
     let mut came = one_by_one(b"ok\n");
-    converse(alloc, &mut input, requests, &mut came, &mut printed).err()
+    conversed(alloc, &mut input, requests, &mut came, &mut printed).err()
 }
 
 #[test]
@@ -174,7 +197,7 @@ fn faults_name_what_failed(rt: HostRuntime) -> Result<(), Fail> {
     );
     let mut input = b"stop\n".as_slice();
     let mut came = one_by_one(b"ok\n");
-    let unprinted = converse(rt.alloc(), &mut input, &mut sent, &mut came, &mut Unflushed);
+    let unprinted = conversed(rt.alloc(), &mut input, &mut sent, &mut came, &mut Unflushed);
     assert_eq!(rt; unprinted, Err(ControlFault::Output));
     Ok(())
 }
@@ -185,7 +208,7 @@ fn gives(alloc: Global, arguments: &[&str], lines: &str) -> Result<bool, AllocEr
     for argument in arguments {
         words.push(String::from_str(alloc, argument)?)?;
     }
-    Ok(command_lines(alloc, words.as_slice())?.as_slice() == lines.as_bytes())
+    Ok(explained(alloc, words.as_slice())?.as_slice() == lines.as_bytes())
 }
 
 /// Checks that the arguments of each row give its lines.

@@ -1,7 +1,9 @@
 //! The width of boxes, and their horizontal positions.
 
+use super::labels::{label_half, lines_half, name_width, room_of};
 use super::order::centres;
 use super::slots::{Side, slot_of};
+use crate::scene::Rooms;
 use crate::table::{Table, number_at};
 use pb_forest::numbered;
 use pb_lan::{CustomerPlan, LinkPlan, Plan};
@@ -11,6 +13,9 @@ const GAP: u32 = 40;
 
 /// The margin at the edges of the picture.
 pub(crate) const MARGIN: u32 = 24;
+
+/// The least distance of the names of links from the left edge of the picture.
+const EDGE: u32 = 4;
 
 /// The least width of a box.
 const LEAST_WIDTH: u32 = 104;
@@ -29,9 +34,6 @@ const PADDING: u32 = 24;
 
 /// The width that an end of a link needs at an edge of a box.
 const LANDING: u32 = 18;
-
-/// The number of letters that mark a link as one that loses frames.
-const LOSING_LETTERS: u32 = 8;
 
 /// The horizontal positions.
 #[derive(Clone, Copy)]
@@ -67,25 +69,16 @@ fn port_width(plan: &Plan, customer: &CustomerPlan) -> u32 {
         .saturating_add(BAR + PADDING)
 }
 
-/// Returns the width of a link's name, with the mark of a link that loses frames.
-pub(crate) fn label_width(link: &LinkPlan) -> u32 {
-    let name = text_width(link.name.as_str(), LETTER);
-    if link.lost_ab.len() == 0 && link.lost_ba.len() == 0 {
-        name
-    } else {
-        name.saturating_add(LOSING_LETTERS * LETTER)
-    }
-}
-
-/// Returns the width that the texts in boxes need.
-fn widest_text(plan: &Plan) -> u32 {
+/// Returns the width that the texts in boxes need, with the room in the lines of customer ports.
+fn widest_text(plan: &Plan, rooms: Rooms<'_>) -> u32 {
     let mut widest = LEAST_WIDTH;
     for bridge in plan.bridges.as_slice() {
         let name = text_width(bridge.name.as_str(), NAME_LETTER);
         widest = widest.max(name.saturating_add(PADDING));
     }
     for customer in plan.customers.as_slice() {
-        widest = widest.max(port_width(plan, customer));
+        let line = port_width(plan, customer).saturating_add(rooms.ports);
+        widest = widest.max(line);
     }
     widest
 }
@@ -103,12 +96,26 @@ fn widest_edge(plan: &Plan, levels: &Table, centres: &Table) -> u32 {
 }
 
 /// Returns half the width of the widest name of a link.
-fn widest_label(plan: &Plan) -> u32 {
+fn widest_name(plan: &Plan) -> u32 {
     let mut widest = 0u32;
     for link in plan.links.as_slice() {
-        widest = widest.max(label_width(link));
+        widest = widest.max(name_width(link));
     }
     widest / 2
+}
+
+/// Returns how far the names of links, and the lines under them, reach to the left of the leftmost box.
+fn overhang(plan: &Plan, columns: &Columns, rooms: Rooms<'_>) -> u32 {
+    let mut most = 0u32;
+    for (place, link) in plan.links.as_slice().iter().enumerate() {
+        let number = number_at(place);
+        let a = columns.landing(plan, link, number, Side::A);
+        let b = columns.landing(plan, link, number, Side::B);
+        let middle = a.min(b).saturating_add(a.abs_diff(b) / 2);
+        let half = label_half(link).max(lines_half(room_of(rooms, number)));
+        most = most.max(columns.left.saturating_add(half).saturating_sub(middle));
+    }
+    most
 }
 
 /// Returns the least middle of all bridges' boxes, in half steps.
@@ -120,20 +127,23 @@ fn leftmost(plan: &Plan, centres: &Table) -> u32 {
     first
 }
 
-/// Computes the horizontal positions of a plan's bridges in these rows.
-pub(crate) fn columns_of(plan: &Plan, levels: Table) -> Columns {
+/// Computes the horizontal positions of a plan's bridges in these rows, with this room under the name of each link.
+pub(crate) fn columns_of(plan: &Plan, levels: Table, rooms: Rooms<'_>) -> Columns {
     let centres = centres(plan, &levels);
-    let wide = widest_text(plan).max(widest_edge(plan, &levels, &centres));
+    let wide = widest_text(plan, rooms).max(widest_edge(plan, &levels, &centres));
     let box_width = (wide / 2).saturating_mul(2);
-    let overhang = widest_label(plan).saturating_sub(box_width / 4);
-    Columns {
+    let beside = widest_name(plan).saturating_sub(box_width / 4);
+    let mut columns = Columns {
         levels,
         centres,
         box_width,
         half_step: box_width.saturating_add(GAP) / 2,
-        left: overhang.saturating_add(MARGIN),
+        left: beside.saturating_add(MARGIN),
         first: leftmost(plan, &centres),
-    }
+    };
+    let overhang = overhang(plan, &columns, rooms);
+    columns.left = columns.left.max(overhang.saturating_add(EDGE));
+    columns
 }
 
 impl Columns {

@@ -1,10 +1,10 @@
 //! The routes of links.
 
 use super::Layout;
-use super::columns::label_width;
+use super::labels::{label_half, lines_half, room_of};
 use super::slots::{Side, is_long, lands_on_top, lower_level, upper_level};
 use super::tracks::{lane, long_before, track_of};
-use crate::scene::{Lane, Point, Route};
+use crate::scene::{Lane, Point, Rooms, Route};
 use pb_forest::numbered;
 use pb_lan::{LinkPlan, Plan};
 
@@ -13,9 +13,6 @@ const NUMBER_BELOW_TOP: u32 = 14;
 
 /// The distance of a port's number from the lower edge of a box.
 const NUMBER_ABOVE_BOTTOM: u32 = 7;
-
-/// The padding beside the name of a link.
-const BESIDE_LABEL: u32 = 4;
 
 impl Layout {
     /// Returns the point at which an end of a link meets its bridge's box.
@@ -53,6 +50,7 @@ impl Layout {
             lane: None,
             label: middle(a, b, bend),
             label_half: label_half(link),
+            lines_half: 0,
             a_port: self.port_number(link, Side::A, a),
             b_port: self.port_number(link, Side::B, b),
         }
@@ -106,6 +104,7 @@ impl Layout {
             lane: Some(lane),
             label: middle(upper_end, top, upper_bend),
             label_half: label_half(link),
+            lines_half: 0,
             a_port: self.port_number(link, Side::A, a),
             b_port: self.port_number(link, Side::B, b),
         }
@@ -121,24 +120,21 @@ impl Layout {
         Point { x: landing.x, y }
     }
 
-    /// Returns the route of the link with a number.
-    pub(crate) fn route(&self, plan: &Plan, number: u8) -> Route {
+    /// Returns the route of the link with a number, with this room under the name of each link.
+    pub(crate) fn route(&self, plan: &Plan, rooms: Rooms<'_>, number: u8) -> Route {
         let Some(link) = numbered(plan.links.as_slice(), number as usize) else {
             return nowhere();
         };
         let a = self.landing(plan, link, number, Side::A);
         let b = self.landing(plan, link, number, Side::B);
-        if is_long(&self.columns.levels, link) {
+        let mut route = if is_long(&self.columns.levels, link) {
             self.around(plan, link, number, a, b)
         } else {
             self.direct(link, number, a, b)
-        }
+        };
+        route.lines_half = lines_half(room_of(rooms, number as u32));
+        route
     }
-}
-
-/// Returns half the width of a link's name, with its padding.
-fn label_half(link: &LinkPlan) -> u32 {
-    (label_width(link) / 2).saturating_add(BESIDE_LABEL)
 }
 
 /// Returns the middle of the curve between two points, with both control points at the height `bend`.
@@ -161,6 +157,7 @@ fn nowhere() -> Route {
         lane: None,
         label: corner,
         label_half: 0,
+        lines_half: 0,
         a_port: corner,
         b_port: corner,
     }

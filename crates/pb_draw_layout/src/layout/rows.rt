@@ -1,7 +1,9 @@
 //! The vertical positions.
 
 use super::columns::{Columns, MARGIN};
+use super::labels::lines_depth;
 use super::tracks::{Stretch, depths};
+use crate::scene::Rooms;
 use crate::table::{Table, number_at};
 use pb_lan::Plan;
 
@@ -11,7 +13,7 @@ const BARE_HEIGHT: u32 = 48;
 /// The height of a port's line in a box.
 pub(crate) const PORT_HEIGHT: u32 = 16;
 
-/// The distance from one track of links to the next.
+/// The distance from one track of links to the next, without lines under names.
 const DEPTH: u32 = 24;
 
 /// The distance of the links from the levels above and below.
@@ -26,6 +28,8 @@ pub(crate) struct Rows {
     pub heights: Table,
     /// The lower edge of all.
     pub bottom: u32,
+    /// The distance from one track of links to the next.
+    pub depth: u32,
 }
 
 /// Returns how many customer ports a bridge has.
@@ -50,19 +54,25 @@ fn heights(plan: &Plan, levels: &Table) -> Table {
     heights
 }
 
-/// Returns the height of the gap between a level and the next one.
-fn gap_below(depths: u32, is_last: bool) -> u32 {
+/// Returns the height of the gap between a level and the next one, with tracks at this distance.
+fn gap_below(depths: u32, is_last: bool, depth: u32) -> u32 {
     if depths == 0 && is_last {
         0
     } else {
-        depths.saturating_mul(DEPTH).saturating_add(BESIDE)
+        depths.saturating_mul(depth).saturating_add(BESIDE)
     }
 }
 
-/// Computes the vertical positions of a plan's levels.
-pub(crate) fn rows_of(plan: &Plan, columns: &Columns, stretches: &[Stretch]) -> Rows {
+/// Computes the vertical positions of a plan's levels, with this room under the name of each link.
+pub(crate) fn rows_of(
+    plan: &Plan,
+    columns: &Columns,
+    stretches: &[Stretch],
+    rooms: Rooms<'_>,
+) -> Rows {
     let heights = heights(plan, &columns.levels);
     let depths = depths(stretches);
+    let depth = DEPTH.saturating_add(lines_depth(rooms));
     let mut tops = Table::filled(0);
     let mut y = MARGIN;
     for level in 0..32u32 {
@@ -70,7 +80,7 @@ pub(crate) fn rows_of(plan: &Plan, columns: &Columns, stretches: &[Stretch]) -> 
         let height = heights.at(level);
         let is_last = heights.at(level + 1) == 0;
         if height > 0 {
-            let gap = gap_below(depths.at(level), is_last);
+            let gap = gap_below(depths.at(level), is_last, depth);
             y = y.saturating_add(height).saturating_add(gap);
         }
     }
@@ -78,6 +88,7 @@ pub(crate) fn rows_of(plan: &Plan, columns: &Columns, stretches: &[Stretch]) -> 
         tops,
         heights,
         bottom: y,
+        depth,
     }
 }
 
@@ -101,6 +112,6 @@ impl Rows {
     pub(crate) fn bend(&self, level: u32, track: u32) -> u32 {
         self.floor(level)
             .saturating_add(BESIDE)
-            .saturating_add(track.saturating_mul(DEPTH))
+            .saturating_add(track.saturating_mul(self.depth))
     }
 }

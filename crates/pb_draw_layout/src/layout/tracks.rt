@@ -1,7 +1,9 @@
 //! The tracks of links between two levels. No two names of links overlap.
 
-use super::columns::{Columns, label_width};
+use super::columns::Columns;
+use super::labels::{label_width, room_of};
 use super::slots::{Side, is_long, lower_level, upper_level};
+use crate::scene::Rooms;
 use crate::table::{Table, number_at};
 use pb_frame::Memory;
 use pb_lan::{LinkPlan, Plan};
@@ -103,11 +105,17 @@ fn stretch_between(link: u32, level: u32, from: u32, to: u32, label: u32) -> Str
 }
 
 /// Returns the part of a link below its upper bridge. Between bridges of one level the shorter parts come first.
-fn upper_stretch(columns: &Columns, plan: &Plan, link: &LinkPlan, number: u32) -> Stretch {
+fn upper_stretch(
+    columns: &Columns,
+    plan: &Plan,
+    rooms: Rooms<'_>,
+    link: &LinkPlan,
+    number: u32,
+) -> Stretch {
     let a = columns.landing(plan, link, number, Side::A);
     let b = columns.landing(plan, link, number, Side::B);
     let level = upper_level(&columns.levels, link);
-    let label = label_width(link);
+    let label = label_width(link, room_of(rooms, number));
     let is_a_upper = columns.levels.at(link.a.bridge as u32) == level;
     let (from, to) = if is_a_upper { (a, b) } else { (b, a) };
     if is_long(&columns.levels, link) {
@@ -144,11 +152,16 @@ fn put_stretch(stretches: &mut Vec<Stretch>, mut stretch: Stretch) -> Result<(),
 }
 
 /// Returns the parts of all links, without their tracks.
-fn all_stretches(alloc: Global, columns: &Columns, plan: &Plan) -> Result<Vec<Stretch>, Memory> {
+fn all_stretches(
+    alloc: Global,
+    columns: &Columns,
+    plan: &Plan,
+    rooms: Rooms<'_>,
+) -> Result<Vec<Stretch>, Memory> {
     let mut stretches = Vec::new(alloc);
     for (place, link) in plan.links.as_slice().iter().enumerate() {
         let number = number_at(place);
-        stretches.push(upper_stretch(columns, plan, link, number))?;
+        stretches.push(upper_stretch(columns, plan, rooms, link, number))?;
         if is_long(&columns.levels, link) {
             stretches.push(lower_stretch(columns, plan, link, number))?;
         }
@@ -161,8 +174,9 @@ pub(crate) fn stretches(
     alloc: Global,
     columns: &Columns,
     plan: &Plan,
+    rooms: Rooms<'_>,
 ) -> Result<Vec<Stretch>, Memory> {
-    let mut all = all_stretches(alloc, columns, plan)?;
+    let mut all = all_stretches(alloc, columns, plan, rooms)?;
     all.sort_by_key(|stretch| stretch.turn)?;
     let mut placed = Vec::new(alloc);
     for stretch in all.as_slice() {

@@ -35,6 +35,12 @@ const PORT_FAULT: &[Slot] = slots![("port", Kind::Text, " "), ("code", Kind::Num
 /// Frames were not written.
 const FRAMES: &[Choice] = choices![("frames not written", Said::Word("frames not written")),];
 
+/// The system did not take the datagrams of frames.
+const SENDS: &[Choice] = choices![("frames not sent", Said::Word("frames not sent")),];
+
+/// The system failed to return datagrams.
+const RECEIVES: &[Choice] = choices![("receives failed", Said::Word("receives failed")),];
+
 /// Copies of frames, or a bridge's own BPDUs, were not queued.
 const COPIES: &[Choice] = choices![
     ("copies not queued", Said::Word("copies not queued")),
@@ -70,13 +76,23 @@ const REASONS: &[Choice] = choices![
     ("no-port", Said::Word("no-port")),
 ];
 
-/// The uses that a customer port makes of a path.
+/// Why a customer port dropped datagrams.
+const REFUSALS: &[Choice] = choices![
+    ("other-sender", Said::Word("other-sender")),
+    ("short-header", Said::Word("short-header")),
+    ("unset-flag", Said::Word("unset-flag")),
+    ("other-network", Said::Word("other-network")),
+    ("short-frame", Said::Word("short-frame")),
+];
+
+/// The uses that a customer port makes of a path or an address.
 const USES: &[Choice] = choices![
     ("read", Said::Word("read")),
     ("cannot read", Said::Word("read")),
     ("write", Said::Word("write")),
     ("connect", Said::Word("connect")),
     ("listen", Said::Word("listen")),
+    ("bind", Said::Word("bind")),
 ];
 
 /// The use of a control socket.
@@ -99,6 +115,29 @@ const UNWRITTEN: &[Slot] = slots![
     ("port", Kind::Text, ": "),
     ("count", Kind::Number, " "),
     ("what", Kind::OneOf(FRAMES), ""),
+];
+
+/// The frames that a customer port did not send in datagrams.
+const UNSENT: &[Slot] = slots![
+    ("port", Kind::Text, ": "),
+    ("count", Kind::Number, " "),
+    ("what", Kind::OneOf(SENDS), ": "),
+    ("why", Kind::Text, ""),
+];
+
+/// The receives of datagrams that failed at a customer port.
+const UNRECEIVED: &[Slot] = slots![
+    ("port", Kind::Text, ": "),
+    ("count", Kind::Number, " "),
+    ("what", Kind::OneOf(RECEIVES), ": "),
+    ("why", Kind::Text, ""),
+];
+
+/// The datagrams that a customer port dropped.
+const REFUSED: &[Slot] = slots![
+    ("port", Kind::Text, ": "),
+    ("count", Kind::Number, " datagrams dropped: "),
+    ("reason", Kind::OneOf(REFUSALS), ""),
 ];
 
 /// The frames that a tap of a link did not write.
@@ -139,7 +178,7 @@ const TRANSIT: &[Slot] = slots![("in_transit", Kind::Number, ""),];
 /// The bridges have not converged.
 const UNSETTLED: &[Slot] = slots![("what", Kind::OneOf(CONVERGENCE), ""),];
 
-/// A path that a customer port could not use.
+/// A path or an address that a customer port could not use.
 const PORT_PATH: &[Slot] = slots![
     ("port", Kind::Text, ": "),
     ("use", Kind::OneOf(USES), " "),
@@ -175,10 +214,13 @@ const RUN_LINES: &[Template] = &[
     SETTLED_LINE,
     template!("port_faults", "fault: port ", PORT_FAULT),
     template!("losses", "port ", UNWRITTEN),
+    template!("losses", "port ", UNSENT),
     template!("losses", "tap of link ", TAP_UNWRITTEN),
     template!("losses", "bridge ", UNQUEUED),
     template!("losses", "bridge ", UNLEARNT),
     template!("losses", "", UNSETTLED),
+    template!("drops", "port ", REFUSED),
+    template!("drops", "port ", UNRECEIVED),
     template!("drops", "bridge ", DROPPED),
     template!("", "frames in transit: ", TRANSIT),
     template!("paths", "error: port ", PORT_PATH),

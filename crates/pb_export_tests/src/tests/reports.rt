@@ -31,12 +31,15 @@ const ACCEPTED: &str =
 
 /// A run with losses, and with paths that it could not use.
 const LOST: &str =
-    "ended drained\nport C1: 3 frames not written\ntap of link L1: 5 frames not written\n\
+    "ended drained\nport C1: 3 frames not written\nport C3: 7 frames not sent: Message too long (os error 90)\n\
+    port C3: 9 datagrams dropped: other-network\nport C3: 1 receives failed: Cannot allocate memory\n\
+    tap of link L1: 5 frames not written\n\
     bridge B2 port 1: 2571 copies not queued: full\n\
     bridge B2 port 1: 4 BPDUs not queued: memory\nbridge B2: 17 sources not learnt: full\n\
     bridge B2 port 3: 6 frames dropped: not-member\nbridge B2 port 3: 2 frames dropped: no-port\n\
     bridges not converged\n\
     error: port C1: write out/a.pcap: also the plan file\nerror: port C2: cannot read in.pcap: it is a pcapng file\n\
+    error: port C3: bind 10.0.0.1:4789: Address already in use (os error 98)\n\
     error: tap of link L1: write out/l1.pcap: No such file or directory (os error 2)\n\
     error: cannot create control socket out/net: File exists\nwarning: 1 event did not take place\nhint: convert it\n";
 
@@ -116,15 +119,19 @@ pub(super) const RUNS: &[Said] = &[
         text: LOST,
         json: r#"{"ended": "drained", "ports": [], "links": [], "loops": [], "port_faults": [], "losses": [
                 {"port": "C1", "count": 3, "what": "frames not written"},
+                {"port": "C3", "count": 7, "what": "frames not sent", "why": "Message too long (os error 90)"},
                 {"link": "L1", "count": 5, "what": "frames not written"},
                 {"bridge": "B2", "bridge_port": 1, "count": 2571, "what": "copies not queued", "cause": "full"},
                 {"bridge": "B2", "bridge_port": 1, "count": 4, "what": "BPDUs not queued", "cause": "memory"},
                 {"bridge": "B2", "count": 17, "what": "sources not learnt", "cause": "full"},
                 {"what": "bridges not converged"}],
-            "drops": [{"bridge": "B2", "bridge_port": 3, "count": 6, "reason": "not-member"},
+            "drops": [{"port": "C3", "count": 9, "reason": "other-network"},
+                {"port": "C3", "count": 1, "what": "receives failed", "why": "Cannot allocate memory"},
+                {"bridge": "B2", "bridge_port": 3, "count": 6, "reason": "not-member"},
                 {"bridge": "B2", "bridge_port": 3, "count": 2, "reason": "no-port"}],
             "paths": [{"port": "C1", "use": "write", "path": "out/a.pcap", "why": "also the plan file"},
                 {"port": "C2", "use": "read", "path": "in.pcap", "why": "it is a pcapng file"},
+                {"port": "C3", "use": "bind", "path": "10.0.0.1:4789", "why": "Address already in use (os error 98)"},
                 {"link": "L1", "use": "write", "path": "out/l1.pcap", "why": "No such file or directory (os error 2)"},
                 {"use": "control", "path": "out/net", "why": "File exists"}],
             "warnings": [{"message": "1 event did not take place"}], "other": ["hint: convert it"]}"#,

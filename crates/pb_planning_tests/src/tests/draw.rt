@@ -1,10 +1,12 @@
 //! The pictures of plan files.
 
-ghost use Rattle.std.specs.Prelude.{◌≡◌, ◌⊎◌, IfOk};
-ghost use Rattle.pb_cmd_draw.specs.Draws.{HasWritten};
+ghost use Rattle.std.specs.Prelude.{◌≡◌, ◌≢◌, ◌⊎◌, IfOk, IfErr};
+ghost use Rattle.std.specs.Io.KnownBytes.{Keeps};
+ghost use Rattle.pb_cmd_draw.specs.Draws.{HasWritten, RunsIntoLimit};
 ghost use Rattle.pb_report.specs.Refusals.{PrintsRefusal};
 
 mod apart;
+mod lists;
 mod plans;
 
 use pb_cmd_draw::{Asked, DownFault, DrawEnd, Format, Rest, run_draw};
@@ -45,21 +47,24 @@ fn has_pieces(rt: &impl Abort, number: usize, text: &str, pieces: &[Piece]) {
 }
 
 /// Calls `run_draw` with what a caller may conclude: what is written for the plan in the file, or the rule that it
-/// breaks.
+/// breaks, and when each error comes.
 fn drawn<W: Write>(
     alloc: Global,
     file: &[u8],
     asked: &Asked<'_>,
     writer: &mut W,
 ) -> Result<DrawEnd, CommandFault>
-    ensures { IfOk result (λ end. HasWritten file.now asked.now end (W.contents writer.old) (W.contents writer.new)
+    ensures ok { IfOk result (λ end. HasWritten file.now asked.now end (W.contents writer.old) (W.contents writer.new)
         ⊎ ((end ≡ DrawEnd.Refused) × PrintsRefusal file.now (W.contents writer.old) (W.contents writer.new))) }
+    ensures kinds { IfErr result (λ e. e ≢ CommandFault.Read) }
+    ensures steps { IfErr result (λ e. e ≡ CommandFault.Steps → RunsIntoLimit file.now) }
+    ensures none { IfErr result (λ e. e ≢ CommandFault.Write → Keeps (W.contents writer.old) (W.contents writer.new)) }
 {
     run_draw(alloc, file, asked, writer)
 }
 
-/// Checks the end and the picture of each row.
-fn draws(rt: &impl Abort, alloc: Global, rows: &[Row]) -> Result<(), Fail> {
+/// Checks the end and the picture of each row, with the lists of services of links or without.
+fn draws(rt: &impl Abort, alloc: Global, lists: bool, rows: &[Row]) -> Result<(), Fail> {
     for (number, (plan, question, end, pieces)) in rows.iter().enumerate() {
         let (service, downs, ticks, format) = *question;
         let words = words_of(alloc, downs)?;
@@ -67,6 +72,7 @@ fn draws(rt: &impl Abort, alloc: Global, rows: &[Row]) -> Result<(), Fail> {
             service,
             downs: words.as_slice(),
             ticks,
+            lists,
             format,
         };
         let mut output = Vec::new(alloc);
@@ -142,6 +148,18 @@ fn networks_are_drawn(rt: HostRuntime) -> Result<(), Fail> {
             plans::DOT_DOWN_PIECES,
         ),
         (
+            plans::LOOP,
+            (Some("red"), &[], 200, SVG),
+            DrawEnd::Drawn(Rest::Given),
+            plans::LOOP_RED_PIECES,
+        ),
+        (
+            plans::LOOP,
+            (Some("blue"), &[], 200, SVG),
+            DrawEnd::Drawn(Rest::Given),
+            plans::LOOP_BLUE_PIECES,
+        ),
+        (
             plans::RING,
             (None, &[], 200, SVG),
             DrawEnd::Drawn(Rest::Settled(2)),
@@ -154,7 +172,7 @@ fn networks_are_drawn(rt: HostRuntime) -> Result<(), Fail> {
             plans::UNSETTLED_PIECES,
         ),
     ];
-    draws(&rt, rt.alloc(), ROWS)
+    draws(&rt, rt.alloc(), false, ROWS)
 }
 
 #[test]
@@ -204,7 +222,7 @@ fn what_is_wrong_is_told(rt: HostRuntime) -> Result<(), Fail> {
             NONE,
         ),
     ];
-    draws(&rt, rt.alloc(), ROWS)
+    draws(&rt, rt.alloc(), false, ROWS)
 }
 
 #[test]
@@ -214,6 +232,7 @@ fn writes_that_fail_are_told(rt: HostRuntime) {
         service: None,
         downs: &[],
         ticks: 200,
+        lists: false,
         format: Format::Svg,
     };
     let plan = plans::RING.as_bytes();

@@ -5,8 +5,9 @@ ghost use Rattle.pb_lan.specs.Plans.{IsSound};
 
 use bytes::Bytes;
 use pb_cmd_init::{Topology, write_plan};
-use pb_converge::{DriveFault, Rest, drain, settle};
-use pb_lan::{Event, Plan};
+use pb_converge::{DriveFault, Rest, drain, settle, stand};
+use pb_frame::Memory;
+use pb_lan::{Event, Place, Plan, Spanning, Step};
 use pb_net::Net;
 use pb_service::read_plan;
 use std::alloc::{AllocError, Global};
@@ -165,4 +166,54 @@ fn ticks_have_a_limit(rt: HostRuntime) -> Result<(), Fail> {
 fn events_have_a_limit(rt: HostRuntime) -> Result<(), Fail> {
     const ROWS: &[Row] = &[Row::Settles(200, 3, Err(DriveFault::Events))];
     begins(&rt, rt.alloc(), Topology::Ring(3), ROWS)
+}
+
+/// Returns how often the first bridge ticked.
+fn ticks_of(net: &Net) -> usize {
+    let first = Place::Bridge(1);
+    if !net.has_place(first) || !net.keeps_steps() {
+        return 0;
+    }
+    let steps = net.steps(first);
+    steps
+        .iter()
+        .filter(|step| matches!(step, Step::Tick { .. }))
+        .count()
+}
+
+/// Returns whether the machines of two networks are the same.
+fn have_same_machines(alloc: Global, one: &Net, other: &Net, plan: &Plan) -> Result<bool, Memory>
+    requires one { one.now.plan ≡ plan.now }
+    requires other { other.now.plan ≡ plan.now }
+{
+    if plan.spanning != Spanning::Rstp {
+        return Ok(false);
+    }
+    let (ones, others) = (one.machines(alloc)?, other.machines(alloc)?);
+    let pairs = ones.iter().zip(others.iter());
+    Ok(ones.len() == others.len() && pairs.into_iter().all(|(a, b)| a.is_same(b)))
+}
+
+/// Checks a ring of 24 bridges without a link, which is longer than information lasts: its bridges never settle. Their
+/// machines recur, but a network that keeps its steps performs all rounds.
+#[test]
+fn a_network_that_keeps_its_steps_performs_all_rounds(rt: HostRuntime) -> Result<(), Fail> {
+    let alloc = rt.alloc();
+    let mut file = Vec::new(alloc);
+    assert_eq!(rt; write_plan(alloc, Topology::Ring(24), 1, &mut file), Ok(()));
+    let Ok((plan, _ports)) = read_plan(alloc, file.as_slice()) else {
+        panic!(rt; "no plan");
+    };
+    let mut net = Net::new(alloc, plan.clone()?)?;
+    assert!(rt; falls(&mut net, 1, 1) && falls(&mut net, 2, 2));
+    let mut long = net.clone()?;
+    assert_eq!(rt;
+        settle(alloc, &mut net, &plan, 200, 1_000_000),
+        Ok(Rest::Unsettled(200))
+    );
+    assert_eq!(rt; stand(&mut long, &plan, 200, 1_000_000), Ok(()));
+    assert_eq!(rt; ticks_of(&long), 200);
+    assert_eq!(rt; ticks_of(&net), 200);
+    assert!(rt; have_same_machines(alloc, &net, &long, &plan)?);
+    Ok(())
 }

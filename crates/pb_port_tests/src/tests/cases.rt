@@ -2,15 +2,17 @@
 
 use super::device::{Fake, Hollow, Manner, Parts, SINK, Seen};
 use super::rows::{Row, walk};
-use pb_port::{CapturePort, SocketPort};
+use pb_port::{CapturePort, LengthField, SocketPort};
 use std::alloc::Global;
 use std::process::Abort;
 
 /// The devices of a port.
 #[derive(Clone, Copy)]
 pub(super) enum Devices {
-    /// A socket, with one device for both directions.
+    /// A socket whose lengths have two octets, with one device for both directions.
     Socket(Manner),
+    /// The same with lengths of four octets.
+    Four(Manner),
     /// A capture with this device to read. The device to write does nothing.
     Reader(Manner),
     /// A capture with this device to write. The device to read does nothing.
@@ -63,11 +65,12 @@ fn wanted(case: &Case) -> Came {
     }
 }
 
-fn socket(alloc: Global, case: &Case, stream: Manner) -> Came {
+fn socket(alloc: Global, case: &Case, framing: LengthField, stream: Manner) -> Came {
     let seen = Seen::new(case.wrote);
     let mut port = SocketPort::new(
         alloc,
         case.capacity.clamp(1, 4_096),
+        framing,
         Fake::new(stream, &seen),
     );
     Came {
@@ -103,7 +106,8 @@ fn writer(alloc: Global, case: &Case, writer: Manner) -> Came {
 /// Checks that a case has its results.
 pub(super) fn check(rt: &impl Abort, alloc: Global, number: usize, case: &Case) {
     let came = match case.devices {
-        Devices::Socket(stream) => socket(alloc, case, stream),
+        Devices::Socket(stream) => socket(alloc, case, LengthField::Two, stream),
+        Devices::Four(stream) => socket(alloc, case, LengthField::Four, stream),
         Devices::Reader(manner) => reader(alloc, case, manner),
         Devices::Writer(manner) => writer(alloc, case, manner),
     };

@@ -25,6 +25,8 @@ pub(super) enum Row {
     PumpsUntil(u32, u32),
     /// The next poll gives a frame.
     Gives(&'static [u8]),
+    /// The next frame, after at most 2,000 polls, has this many octets 7.
+    GivesLong(u16),
     /// The next poll gives no frame yet.
     Waits,
     /// The next poll reports the end.
@@ -67,6 +69,7 @@ fn holds<P: Port>(alloc: Global, port: &mut P, seen: &Seen, row: Row) -> bool {
         Row::Offers(octets, wanted) => offers(port, octets, wanted),
         Row::Takes(times, octets) => takes(port, times, octets),
         Row::TakesLong(octets) => takes_long(alloc, port, octets),
+        Row::GivesLong(octets) => gives_long(port, octets),
         Row::Tells(wanted) => tells(port, wanted),
         Row::Unsent(count) => port.unsent().len() == count,
         Row::Shelves { sent, unsent } => shelves(alloc, port, sent, unsent),
@@ -128,6 +131,21 @@ fn polls<P: Port>(port: &mut P, row: Row) -> bool {
         (Polled::Fault(told), Row::Faults(wanted)) => told == wanted,
         _ => false,
     }
+}
+
+/// Checks whether the next frame has so many octets 7.
+fn gives_long<P: Port>(port: &mut P, octets: u16) -> bool {
+    for _ in 0..2000u16 {
+        match port.poll() {
+            Polled::Frame(frame) => {
+                let frame = frame.as_slice();
+                return frame.len() == usize::from(octets) && frame.iter().all(|o| *o == 7);
+            }
+            Polled::Nothing => {}
+            _ => return false,
+        }
+    }
+    false
 }
 
 /// Checks whether a port's stream is this one. A failed allocation is ignored, because it loses no octet.

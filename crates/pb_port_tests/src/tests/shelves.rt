@@ -3,7 +3,9 @@
 use super::device::Hollow;
 use super::memory_ports::check;
 use super::rows::{Row, held};
-use pb_port::{CapturePort, MemoryPort, Offered, Port, Pumped, SocketPort, StayingPort};
+use pb_port::{
+    CapturePort, LengthField, MemoryPort, Offered, Port, Pumped, SocketPort, StayingPort,
+};
 use std::alloc::{AllocError, Global};
 use std::collections::VecDeque;
 
@@ -64,12 +66,12 @@ fn capture(alloc: Global) -> Result<Any, AllocError> {
 }
 
 fn socket(alloc: Global) -> Result<Any, AllocError> {
-    let port: Any = Box::new(alloc, SocketPort::new(alloc, 2, Hollow))?;
+    let port: Any = Box::new(alloc, SocketPort::new(alloc, 2, LengthField::Two, Hollow))?;
     Ok(port)
 }
 
 fn staying(alloc: Global) -> Result<Any, AllocError> {
-    let port: Any = Box::new(alloc, StayingPort::new(alloc, 2, Hollow))?;
+    let port: Any = Box::new(alloc, StayingPort::new(alloc, 2, LengthField::Four, Hollow))?;
     Ok(port)
 }
 

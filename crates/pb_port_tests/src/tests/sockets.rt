@@ -4,7 +4,7 @@ use super::cases::{Case, Devices, NOTHING, check_all};
 use super::device::{Manner, SINK, Seen};
 use super::rows::{Row, walk};
 use mio::net::{UnixListener, UnixStream};
-use pb_port::{Offered, Over, PortFault, Pumped, SocketPort};
+use pb_port::{LengthField, Offered, Over, PortFault, Pumped, SocketPort};
 use std::alloc::Global;
 use std::fs::{self, Files};
 use std::io;
@@ -120,8 +120,8 @@ fn ends<R: Files + Net>(rt: &R, path: &str) -> io::Result<(UnixStream, UnixStrea
 /// Returns how many rows hold of ports over these ends, and how many calls of the near one failed.
 fn passed(alloc: Global, near: UnixStream, far: UnixStream) -> (usize, u64) {
     let (seen, mut held) = (Seen::new(&[]), 0usize);
-    let mut near = SocketPort::new(alloc, 4, Over::new(near));
-    let mut far = SocketPort::new(alloc, 4, Over::new(far));
+    let mut near = SocketPort::new(alloc, 4, LengthField::Two, Over::new(near));
+    let mut far = SocketPort::new(alloc, 4, LengthField::Two, Over::new(far));
     for (is_far, rows) in PASSES {
         let port = if *is_far { &mut far } else { &mut near };
         let more = walk(alloc, port, &seen, rows);

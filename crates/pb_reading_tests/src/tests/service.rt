@@ -2,12 +2,14 @@
 
 mod both_ends;
 mod faults;
+mod framing;
 mod kinds;
 mod lossless;
 mod order;
 mod plans;
 mod ranges;
 mod taps;
+mod udp;
 
 use pb_service::{PlanFault, read_plan};
 use std::alloc::Global;

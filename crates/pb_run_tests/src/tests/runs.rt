@@ -10,7 +10,7 @@ use super::streams::{Broken, Stream};
 use super::told::{NOTHING, Told, tell, tell_counted, tell_fault};
 use pb_frame::Memory;
 use pb_lan::{Limits, Plan, plan_is_sound};
-use pb_port::{MemoryPort, SocketPort};
+use pb_port::{LengthField, MemoryPort, SocketPort};
 use pb_run::{Gate, Held, KeptRun, Ran, RunFault, run_set};
 use std::alloc::Global;
 use std::sync::{Arc, Wait};
@@ -92,7 +92,10 @@ fn socket(
     activity: &Arc<PortActivity, Global>,
 ) -> Result<Held, Memory> {
     let stream = Stream::new(alloc, count, broken, Arc::try_clone(activity)?)?;
-    Ok(Box::new(alloc, SocketPort::new(alloc, 4_096, stream))?)
+    Ok(Box::new(
+        alloc,
+        SocketPort::new(alloc, 4_096, LengthField::Two, stream),
+    )?)
 }
 
 /// Returns a port outside, in a box.

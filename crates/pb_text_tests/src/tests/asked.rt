@@ -95,6 +95,7 @@ fn is_run(told: &RunOptions, run: &Run) -> bool {
         && told.strict == run.strict
         && told.settles == run.settles
         && told.linger == run.linger
+        && told.allows_network == run.allows_network
         && told.format == ReportFormat::Text
 }
 
@@ -187,6 +188,7 @@ fn is_picture(told: &DrawOptions, picture: &Picture) -> bool {
     told.path.as_str() == picture.path
         && is_text(told.service.as_ref(), picture.service)
         && are_texts(&told.downs, picture.downs)
+        && told.lists == picture.lists
         && told.format == picture.format
         && told.ticks == picture.ticks
         && is_text(told.output.as_ref(), picture.output)

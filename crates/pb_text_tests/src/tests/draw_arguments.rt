@@ -10,6 +10,7 @@ const PICTURE: Picture = Picture {
     path: "a",
     service: None,
     downs: &[],
+    lists: false,
     format: PictureFormat::Svg,
     ticks: 200,
     output: None,
@@ -33,6 +34,14 @@ const PICTURES: &[Row] = &[
         }),
     ),
     (&["draw", "a", "--format=svg"], Wanted::Draw(PICTURE)),
+    (
+        &["draw", "a", "--lists"],
+        Wanted::Draw(Picture {
+            lists: true,
+            ..PICTURE
+        }),
+    ),
+    (&["draw", "a", "--lists=1"], WRONG),
     (
         &["draw", "--down", "B1:1", "a", "--down", "B2:16"],
         Wanted::Draw(Picture {

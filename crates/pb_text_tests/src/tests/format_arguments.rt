@@ -43,7 +43,7 @@ fn reports_have_forms(rt: HostRuntime) -> Result<(), Fail> {
 }
 
 #[test]
-fn runs_settle_and_linger(rt: HostRuntime) -> Result<(), Fail> {
+fn runs_settle_and_linger_and_reach_the_network(rt: HostRuntime) -> Result<(), Fail> {
     const ROWS: &[Row] = &[
         (&["run", "a"], Wanted::Run(RUN)),
         (
@@ -69,6 +69,15 @@ fn runs_settle_and_linger(rt: HostRuntime) -> Result<(), Fail> {
         (&["run", "a", "--linger=-1"], WRONG),
         (&["run", "a", "--linger"], WRONG),
         (&["run", "a", "--settle=1"], WRONG),
+        (
+            &["run", "--allow-network", "a"],
+            Wanted::Run(Run {
+                allows_network: true,
+                ..RUN
+            }),
+        ),
+        (&["run", "a", "--allow-network=1"], WRONG),
+        (&["check", "a", "--allow-network"], WRONG),
         (&["tree", "a", "--linger=1"], WRONG),
     ];
     all_ask(&rt, rt.alloc(), ROWS)

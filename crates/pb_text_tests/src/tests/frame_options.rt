@@ -1,11 +1,14 @@
 //! The frames that options describe.
 
+ghost use Rattle.std.specs.Prelude.{◌≡◌, IfOk};
+ghost use Rattle.pb_frame_options.specs.Frames.{frame_of};
+
 use pb_frame::Mac;
 use pb_frame_options::{
     Content, FrameOptions, TagTextFault, address_of, customer_tag_of, ethertype_of, frame_of,
     priority_tag, station_of,
 };
-use std::alloc::Global;
+use std::alloc::{AllocError, Global};
 use std::process::Abort;
 use std::test::Fail;
 
@@ -19,6 +22,13 @@ const BROADCAST: FrameOptions = FrameOptions {
     least: 0,
 };
 
+/// Calls `frame_of`. Its contract says which octets a caller gets.
+fn explained(alloc: Global, options: &FrameOptions) -> Result<Vec<u8>, AllocError>
+    ensures { IfOk result (λ frame. frame.items ≡ frame_of options.now) }
+{
+    frame_of(alloc, options)
+}
+
 /// Checks that options describe these octets.
 fn describes(
     rt: &impl Abort,
@@ -26,7 +36,7 @@ fn describes(
     options: &FrameOptions,
     octets: &[u8],
 ) -> Result<(), Fail> {
-    let frame = frame_of(alloc, options)?;
+    let frame = explained(alloc, options)?;
     assert!(rt; frame.as_slice() == octets);
     Ok(())
 }

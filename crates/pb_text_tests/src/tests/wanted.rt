@@ -16,6 +16,8 @@ pub(super) struct Run {
     pub(super) settles: bool,
     /// The time after the run in which ports write, in milliseconds.
     pub(super) linger: u32,
+    /// Whether ports may bind addresses that are not loopback.
+    pub(super) allows_network: bool,
 }
 
 /// A run of the file `a` without options.
@@ -27,6 +29,7 @@ pub(super) const RUN: Run = Run {
     strict: false,
     settles: false,
     linger: 100,
+    allows_network: false,
 };
 
 /// The services of a survey.
@@ -83,6 +86,8 @@ pub(super) struct Picture {
     pub(super) service: Option<&'static str>,
     /// The ports that are disabled.
     pub(super) downs: &'static [&'static str],
+    /// Whether links show their lists of services.
+    pub(super) lists: bool,
     pub(super) format: PictureFormat,
     /// The maximum number of ticks.
     pub(super) ticks: u32,

@@ -8,7 +8,7 @@ returns c =
     let old = string_bytes c.args.out.now in
     let parts = string_bytes c.put_parts.new.out in
     let head = codes "graph network {\n" in
-    let all = parts_text c.args.plan.now c.args.scene.now in
+    let all = parts_text c.args.plan.now c.args.lists c.args.scene.now in
     let with_parts = with_piece old (string_bytes c.push_str.new.self) parts head all c.in_ok-push_str.ensures.bytes
     c.in_ok-put_parts.ensures in
     with_piece old parts (string_bytes c.push_str-2.new.self) (head ++ all) (codes "}\n") with_parts

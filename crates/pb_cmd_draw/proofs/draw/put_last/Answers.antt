@@ -9,7 +9,7 @@ returns-clause-picture c =
     (λ t. (
       t.0,
       t.1,
-      subst (λ shape. IsPictureOf c.args.plan.now shape c.args.shown.chosen c.args.shown.failed.now c.args.shown.format
-          t.0)
+      subst (λ shape. IsPictureOf c.args.plan.now shape c.args.shown.chosen c.args.shown.failed.now c.args.shown.lists
+          c.args.shown.format t.0)
           c.in_ok-shape.ensures.shape t.2,
     )) c.put_picture.ensures

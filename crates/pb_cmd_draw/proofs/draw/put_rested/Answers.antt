@@ -20,16 +20,17 @@ returns-in_err-rest-clause-err c =
 pub returns-clause-ok : goal.returns-clause-ok
 returns-clause-ok c =
     let plan = c.args.plan.now in
+    let lists = c.args.asked.now.lists in
     let form = c.args.asked.now.format in
     let t = c.in_ok-put_last.ensures.picture in
     let failed = c.in_ok-failed.failed in
-    let last = subst (λ rec. IsPictureOf plan (last_shape plan rec) c.chosen_of-chosen.result failed form t.0)
+    let last = subst (λ rec. IsPictureOf plan (last_shape plan rec) c.chosen_of-chosen.result failed lists form t.0)
     c.in_ok-tallies.ensures.record t.2 in
-    let lit = subst (λ chosen. IsPictureOf plan (last_shape plan c.settle.new.net.rec) chosen failed form t.0)
+    let lit = subst (λ chosen. IsPictureOf plan (last_shape plan c.settle.new.net.rec) chosen failed lists form t.0)
     c.chosen_of-chosen.ensures last in
     let picture = subst
     (λ down. IsPictureOf plan (last_shape plan c.settle.new.net.rec) (chosen_of plan c.args.asked.now.service) down
-    form t.0)
+    lists form t.0)
     c.in_ok-failed.ensures lit in
     let planned = c.settle.ensures.plan in
     let lawful = subst (λ rec. IsLawfulRecord spanning_tree plan rec) c.in_ok-tallies.ensures.record

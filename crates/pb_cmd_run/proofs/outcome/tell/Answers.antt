@@ -1,4 +1,4 @@
-use Rattle.std.proofs.Common.{map, ◌∙◌, rules}
+use Rattle.std.proofs.Common.{map, ap, ◌&&◌, ◌∙◌, rules}
 use Rattle.std.proofs.lemmas.List.{length-map}
 use Rattle.pb_cmd_run.proofs.NetworkLemmas.{exits}
 use Rattle.pb_cmd_run.proofs.outcome.tell.Goals as goal
@@ -13,6 +13,8 @@ returns-clause-ok g c = record {
   unsent_count = length-map c.as_slice-ports.result.now (λ b. (goal.Port-dyn g (b.vtable, b.value)).waiting b.value)
       ∙ search rules;
   unsent_is = rw c.as_slice-ports.ensures.value c.requires.unsent;
-  status_is = exits _ _ _ _ _ _ _ c.exit_status.ensures c.is_whole-is_whole.ensures
+  files_whole = c.args.are_files_whole;
+  status_is = exits _ _ _ _ _ _ _ _ c.exit_status.ensures
+      (c.is_intact-is_intact.ensures ∙ ap (λ w. w && c.args.are_files_whole) c.is_whole-is_whole.ensures)
       (λ e. c.as_str-2.ensures.value ∙ c.in_ok-lost.ensures.ok e);
 }

@@ -96,6 +96,9 @@ service = "red"
 # creates the socket. With stay = true another peer may follow one that has left. A plan has at most 128
 # customer ports. With replay = "times", which needs tick_ms, the frames of a file enter as far apart as
 # their times are, divided by speed.
+# A udp port sends frames in UDP datagrams from local to remote, and receives them from there: each after a
+# VXLAN header of the network vni or, with encap = "none", alone. With framing = 4 the lengths before the
+# frames of a socket port have four octets, as in QEMU.
 
 #[[port]]
 #name = "capture"

@@ -1,11 +1,16 @@
-use Rattle.std.proofs.Common.{subst, sym}
+use Rattle.std.proofs.Common.{refl, subst, sym}
 use Rattle.std.proofs.lemmas.Result.{err_from_is_err_and}
 use Rattle.pb_lan.specs.declared.event.Event.TheVariants.{Take, Put}
 use Rattle.pb_converge.proofs.DriveLemmas.{stopped-later}
-use Rattle.pb_converge.proofs.SweepLemmas.{tried-join}
+use Rattle.pb_converge.proofs.SweepLemmas.{tried-join, tried-quiet_lane}
 use Rattle.pb_converge.specs.Drives.{HasStopped}
 use Rattle.pb_converge.specs.Sweeps.{IsThis, IsAtLane}
 use Rattle.pb_converge.proofs.draining.at_lane.Goals as goal
+
+pub returns-then-is_lane_quiet-clause-ok : goal.returns-then-is_lane_quiet-clause-ok
+returns-then-is_lane_quiet-clause-ok c =
+    let told = c.if-is_lane_quiet.ensures in
+    tried-quiet_lane c.args.lane c.args.net.now (told.take refl) (told.put refl)
 
 pub returns-in_err-more-clause-err : goal.returns-in_err-more-clause-err
 returns-in_err-more-clause-err c =

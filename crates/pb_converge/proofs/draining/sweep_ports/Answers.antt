@@ -1,10 +1,15 @@
-use Rattle.std.proofs.Common.{arith, subst, sym, ◌∙◌}
+use Rattle.std.proofs.Common.{arith, refl, subst, sym, ◌∙◌}
 use Rattle.std.proofs.lemmas.Result.{err_from_is_err_and}
 use Rattle.pb_converge.proofs.DriveLemmas.{stopped-later}
-use Rattle.pb_converge.proofs.SweepLemmas.{tried-more}
+use Rattle.pb_converge.proofs.SweepLemmas.{tried-more, tried-quiet_ports}
 use Rattle.pb_converge.specs.Drives.{HasStopped}
 use Rattle.pb_converge.specs.Sweeps.{IsAtPort}
 use Rattle.pb_converge.proofs.draining.sweep_ports.Goals as goal
+
+pub returns-then-is_bridge_quiet-clause-ok : goal.returns-then-is_bridge_quiet-clause-ok
+returns-then-is_bridge_quiet-clause-ok c =
+    let told = c.if-is_bridge_quiet.ensures in
+    tried-quiet_ports c.args.bridge c.args.net.now (told.receives refl) (told.transmits refl)
 
 pub returns-in_err-done-clause-err : goal.returns-in_err-done-clause-err
 returns-in_err-done-clause-err c =

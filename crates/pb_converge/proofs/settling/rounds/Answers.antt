@@ -1,14 +1,21 @@
-use Rattle.std.proofs.Common.{◌≤◌, ◌+◌, Some, arith, ap, subst, sym, ◌∙◌}
+use Rattle.std.proofs.Common.{◌≤◌, ◌+◌, Some, arith, ap, refl, subst, sym, ◌∙◌}
 use Rattle.std.proofs.lemmas.Result.{err_from_is_err_and}
 use Rattle.pb_relay.specs.Settled.{TellsSettled}
 use Rattle.pb_converge.proofs.LookLemmas.{looked-twice, not_both, unsettled-more}
-use Rattle.pb_converge.proofs.TickLemmas.{failed-later, failed-look, rounds-more}
+use Rattle.pb_converge.proofs.RecurrenceLemmas.{watched-end, watched-more}
+use Rattle.pb_converge.proofs.TickLemmas.{failed-first, failed-later, failed-look, rounds-more}
 use Rattle.pb_converge.specs.Drives.{HasFailed}
 use Rattle.pb_converge.proofs.settling.rounds.Goals as goal
 
+pub returns-in_err-watch-clause-err : goal.returns-in_err-watch-clause-err
+returns-in_err-watch-clause-err c =
+    let p = err_from_is_err_and c.from_residual.result c.from_residual.ensures.1 in
+    rw p.1 (subst (λ e. HasFailed c.args.events e c.args.net.now c.args.net.now) (sym p.2)
+    (failed-first c.args.events c.args.net.now))
+
 pub returns-in_err-done-clause-err : goal.returns-in_err-done-clause-err
 returns-in_err-done-clause-err c =
-    let p = err_from_is_err_and c.from_residual.result c.from_residual.ensures.1 in
+    let p = err_from_is_err_and c.from_residual-in_err-done.result c.from_residual-in_err-done.ensures.1 in
     let before = c.loop-ticks.invariant in
     let new = c.round.new.net in
     let f = failed-later c.loop-ticks.ticks c.args.events c.loop-ticks.done c.in_err-done.field-0.0 c.args.net.now
@@ -45,6 +52,26 @@ returns-then-is_settled-clause-ok c =
           c.if-is_settled.true,
     )
 
+pub returns-in_err-note-clause-err : goal.returns-in_err-note-clause-err
+returns-in_err-note-clause-err c =
+    let p = err_from_is_err_and c.from_residual-in_err-note.result c.from_residual-in_err-note.ensures.1 in
+    let new = c.round.new.net in
+    let f = failed-look c.loop-ticks.ticks c.args.events c.loop-ticks.done c.in_ok-done.field-0 c.args.net.now
+    c.loop-ticks.net new c.loop-ticks.invariant.rounds c.in_ok-done.ensures.ok in
+    rw p.1 (subst (λ e. HasFailed c.args.events e c.args.net.now new) (sym (p.2 ∙ c.in_err-note.ensures.err)) f)
+
+pub returns-then-ticks-watch-clause-ok : goal.returns-then-ticks-watch-clause-ok
+returns-then-ticks-watch-clause-ok c =
+    let before = c.loop-ticks.invariant in (
+      ap (λ p. p.spanning) c.requires.plan ∙ c.requires.protocol,
+      refl,
+      c.loop-ticks.ticks,
+      record { count = c.loop-ticks.done; rounds = before.rounds; within = before.within },
+      watched-end c.args.most c.loop-ticks.ticks c.loop-ticks.watch c.args.net.now c.loop-ticks.net before.watched
+          c.if-ticks-watch.true,
+      before.unsettled,
+    )
+
 pub loop-ticks-preserved : goal.loop-ticks-preserved
 loop-ticks-preserved c =
     let before = c.loop-ticks.invariant in
@@ -55,6 +82,9 @@ loop-ticks-preserved c =
       plan = c.in_ok-done.ensures.plan;
       seen = λ is. omega arith;
       told = λ one. c.in_ok-is_settled.ensures.ok;
+      watched = watched-more c.args.most c.loop-ticks.ticks c.loop-ticks.watch c.note.new.self c.args.net.now
+          c.loop-ticks.net c.round.new.net c.in_ok-done.field-0 (omega (arith, c.loop-ticks-test.true))
+          (c.loop-ticks.done, before.rounds) before.watched c.in_ok-done.ensures.ok c.in_ok-note.ensures.ok;
       unsettled = λ two.
           let one : 1 ≤ c.loop-ticks.ticks = omega (arith, two) in
           unsettled-more c.loop-ticks.ticks c.loop-ticks.done c.in_ok-done.field-0 c.loop-ticks.was_settled

@@ -1,6 +1,7 @@
 use Rattle.std.proofs.Common.{◌≡◌, ◌≤◌, true, Some}
 use Rattle.pb_relay.specs.Settled.{TellsSettled}
 use Rattle.pb_converge.specs.Drives.{AreRounds, WasUnsettled}
+use Rattle.pb_converge.proofs.RecurrenceLemmas.{IsWatched}
 use Rattle.pb_converge.proofs.settling.rounds.Given as goal
 
 abbrev pub invariant-loop-ticks : goal.invariant-loop-ticks
@@ -11,4 +12,5 @@ invariant-loop-ticks l = record {
   seen : l.was_settled ≡ true → 1 ≤ l.ticks;
   told : 1 ≤ l.ticks → TellsSettled l.net.plan l.net.rec (Some l.was_settled);
   unsettled : 2 ≤ l.ticks → WasUnsettled l.ticks l.fn.net l.net;
+  watched : IsWatched l.most l.ticks l.watch l.fn.net l.net;
 }

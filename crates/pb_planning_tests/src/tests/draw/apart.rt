@@ -1,13 +1,20 @@
 //! Boxes and names of links do not overlap.
 
 use super::plans;
-use pb_cmd_draw::{BridgeMark, Failures, LinkMark, Scene, scene_of};
+use pb_cmd_draw::{BridgeMark, Failures, LinkMark, Room, Rooms, Scene, scene_of};
 use pb_frame::Seq;
 use pb_lan::start_shape;
 use pb_service::read_plan;
 use std::alloc::Global;
 use std::process::Abort;
 use std::test::Fail;
+
+const NO_ROOM: Room = Room { width: 0, lines: 0 };
+
+const TWO_LINES: Room = Room {
+    width: 200,
+    lines: 2,
+};
 
 /// A rectangle: its left, upper, right and lower edge.
 #[derive(Clone, Copy, Debug)]
@@ -20,11 +27,18 @@ fn area_of_box(mark: &BridgeMark) -> Area {
     Area(left, top, left + width, top + height)
 }
 
-/// Returns the area of a link's name.
+/// Returns the area of a link's name, with two lines under it if there are any.
 fn area_of_name(mark: &LinkMark) -> Area {
-    let half = mark.route.label_half as u64;
+    let (name, list) = (mark.route.label_half as u64, mark.route.lines_half as u64);
+    let half = name.max(list);
+    let lines = if list == 0 { 0 } else { 26u64 };
     let (x, y) = (mark.route.label.x as u64, mark.route.label.y as u64);
-    Area(x.saturating_sub(half), y.saturating_sub(7), x + half, y + 7)
+    Area(
+        x.saturating_sub(half),
+        y.saturating_sub(7),
+        x + half,
+        y + 7 + lines,
+    )
 }
 
 /// Checks whether two rectangles have nothing in common.
@@ -47,6 +61,10 @@ fn areas(alloc: Global, scene: &Scene) -> Result<Vec<Area>, Fail> {
 /// Checks that no two boxes or names of a scene overlap, and that all are within the picture.
 fn are_all_apart(rt: &impl Abort, alloc: Global, scene: &Scene) -> Result<(), Fail> {
     let areas = areas(alloc, scene)?;
+    for mark in scene.links.as_slice() {
+        let half = mark.route.label_half.max(mark.route.lines_half);
+        assert!(rt; half <= mark.route.label.x, "{mark:?} leaves the picture");
+    }
     let (width, height) = (scene.size.x as u64, scene.size.y as u64);
     for (number, one) in areas.as_slice().iter().enumerate() {
         assert!(rt;
@@ -60,8 +78,8 @@ fn are_all_apart(rt: &impl Abort, alloc: Global, scene: &Scene) -> Result<(), Fa
     Ok(())
 }
 
-/// Returns the scene of a plan file, with the states at the start.
-fn scene(rt: &impl Abort, alloc: Global, file: &str) -> Result<Scene, Fail> {
+/// Returns the scene of a plan file, with the states at the start, and with so much room under the name of each link.
+fn scene(rt: &impl Abort, alloc: Global, file: &str, room: Room) -> Result<Scene, Fail> {
     let Ok((plan, _ports)) = read_plan(alloc, file.as_bytes()) else {
         panic!(rt; "no plan: {file}");
     };
@@ -70,7 +88,15 @@ fn scene(rt: &impl Abort, alloc: Global, file: &str) -> Result<Scene, Fail> {
         bridges: Seq::from_vec(Vec::new(alloc)),
         links: Seq::from_vec(Vec::new(alloc)),
     };
-    Ok(scene_of(alloc, &plan, &shape, None, &failed)?)
+    let mut links = Vec::new(alloc);
+    for _ in plan.links.as_slice() {
+        links.push(room)?;
+    }
+    let rooms = Rooms {
+        links: links.as_slice(),
+        ports: room.width,
+    };
+    Ok(scene_of(alloc, &plan, &shape, None, &failed, rooms)?)
 }
 
 /// Returns a plan file with `bridges - 1` bridges, each of which is joined to the next `ahead - 1` ones. Only the first
@@ -152,7 +178,7 @@ fn put_wide_link(
 fn wide_levels_wrap(rt: HostRuntime) -> Result<(), Fail> {
     let alloc = rt.alloc();
     let file = wide_plan(alloc)?;
-    let scene = scene(&rt, alloc, file.as_str())?;
+    let scene = scene(&rt, alloc, file.as_str(), NO_ROOM)?;
     assert_eq!(rt; scene.links.len(), 64usize);
     assert!(rt; scene.size.x as u64 <= scene.size.y as u64 * 2);
     are_all_apart(&rt, alloc, &scene)
@@ -162,8 +188,10 @@ fn wide_levels_wrap(rt: HostRuntime) -> Result<(), Fail> {
 fn boxes_and_names_are_apart(rt: HostRuntime) -> Result<(), Fail> {
     let alloc = rt.alloc();
     for file in [plans::GIVEN, plans::RING, ""] {
-        let scene = scene(&rt, alloc, file)?;
-        are_all_apart(&rt, alloc, &scene)?;
+        for room in [NO_ROOM, TWO_LINES] {
+            let scene = scene(&rt, alloc, file, room)?;
+            are_all_apart(&rt, alloc, &scene)?;
+        }
     }
     Ok(())
 }
@@ -173,8 +201,10 @@ fn many_boxes_and_names_are_apart(rt: HostRuntime) -> Result<(), Fail> {
     let alloc = rt.alloc();
     for (bridges, ahead) in [(33, 3), (17, 5), (8, 7)] {
         let file = plan_of(alloc, bridges, ahead)?;
-        let scene = scene(&rt, alloc, file.as_str())?;
-        are_all_apart(&rt, alloc, &scene)?;
+        for room in [NO_ROOM, TWO_LINES] {
+            let scene = scene(&rt, alloc, file.as_str(), room)?;
+            are_all_apart(&rt, alloc, &scene)?;
+        }
     }
     Ok(())
 }

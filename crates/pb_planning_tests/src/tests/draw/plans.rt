@@ -49,6 +49,38 @@ link = [\n\
 ]\n\
 ";
 
+/// A forwarding loop of three bridges. The service red has one customer port, and the service blue two at one bridge.
+pub(super) const LOOP: &str = "\
+bridge = [\n\
+  { name = \"B1\", address = \"02-00-00-00-00-01\" },\n\
+  { name = \"B2\", address = \"02-00-00-00-00-02\" },\n\
+  { name = \"B3\", address = \"02-00-00-00-00-03\" },\n\
+]\n\
+link = [\n\
+  { name = \"L1\", a = \"B1\", a_port = 1, b = \"B2\", b_port = 2 },\n\
+  { name = \"L2\", a = \"B2\", a_port = 1, b = \"B3\", b_port = 2 },\n\
+  { name = \"L3\", a = \"B3\", a_port = 1, b = \"B1\", b_port = 2 },\n\
+]\n\
+service = [{ name = \"red\", vid = 100 }, { name = \"blue\", vid = 200 }]\n\
+port = [\n\
+  { name = \"C1\", bridge = \"B1\", port = 3, service = \"red\" },\n\
+  { name = \"C2\", bridge = \"B2\", port = 3, service = \"blue\" },\n\
+  { name = \"C3\", bridge = \"B2\", port = 4, service = \"blue\" },\n\
+]\n\
+";
+
+/// No path leads from the only port of red to another one.
+pub(super) const LOOP_RED_PIECES: &[Piece] = &[
+    ("class=\"link active faint\"", 3),
+    ("class=\"bridge up lit\"", 1),
+];
+
+/// A frame from one port of blue reaches the other one round the loop.
+pub(super) const LOOP_BLUE_PIECES: &[Piece] = &[
+    ("class=\"link active lit\"", 3),
+    ("class=\"bridge up lit\"", 3),
+];
+
 /// A piece of a text, and how often it is there.
 pub(super) type Piece = (&'static str, usize);
 
@@ -166,7 +198,7 @@ pub(super) const CUT_PIECES: &[Piece] = &[
 /// L1 is disabled at B2.
 pub(super) const DOWN_PIECES: &[Piece] = &[
     (
-        "<title>link L1: B1 port 1 forwarding, B2 port 2 discarding</title>",
+        "<title>link L1: B1 port 1 forwarding, B2 port 2 disabled</title>",
         1,
     ),
     ("class=\"link active plain\"", 1),
@@ -184,7 +216,7 @@ pub(super) const DOWN_PIECES: &[Piece] = &[
 /// L1 is disabled at both ends.
 pub(super) const LINK_PIECES: &[Piece] = &[
     (
-        "<title>link L1: B1 port 1 discarding, B2 port 2 discarding</title>",
+        "<title>link L1: B1 port 1 disabled, B2 port 2 disabled</title>",
         1,
     ),
     (
@@ -200,11 +232,11 @@ pub(super) const LINK_PIECES: &[Piece] = &[
 /// L1 and L2 are disabled at both ends, with the bridge B2.
 pub(super) const BRIDGE_PIECES: &[Piece] = &[
     (
-        "<title>link L1: B1 port 1 discarding, B2 port 2 discarding</title>",
+        "<title>link L1: B1 port 1 disabled, B2 port 2 disabled</title>",
         1,
     ),
     (
-        "<title>link L2: B2 port 1 discarding, B3 port 2 discarding, loses 2 to B3 and 0 to B2</title>",
+        "<title>link L2: B2 port 1 disabled, B3 port 2 disabled, loses 2 to B3 and 0 to B2</title>",
         1,
     ),
     (
@@ -221,7 +253,7 @@ pub(super) const BRIDGE_PIECES: &[Piece] = &[
 
 /// The link B1 is disabled at both ends, with the bridge B2.
 pub(super) const SAME_NAMES_PIECES: &[Piece] = &[(
-    "<title>link B1: B1 port 1 discarding, B2 port 2 discarding</title>",
+    "<title>link B1: B1 port 1 disabled, B2 port 2 disabled</title>",
     1,
 )];
 

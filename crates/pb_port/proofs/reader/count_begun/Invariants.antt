@@ -4,7 +4,7 @@ use Rattle.pb_port.proofs.reader.count_begun.Given as goal
 
 abbrev pub invariant-loop-rest : goal.invariant-loop-rest
 invariant-loop-rest l = record {
-  counts : Counts l.count l.octets l.rest;
+  counts : Counts l.field l.count l.octets l.rest;
   few : l.count + length l.rest ≤ length l.octets;
 }
 

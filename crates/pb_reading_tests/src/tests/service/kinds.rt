@@ -6,11 +6,11 @@ use super::plans::are_ports;
 use bytes::Bytes;
 use pb_frame::Text;
 use pb_lan::Seq;
-use pb_service::{Pace, PlanFault, PortSpec, Stamp, read_plan};
+use pb_service::{LengthField, Pace, PlanFault, PortSpec, Stamp, read_plan};
 use std::alloc::Global;
 
 /// Returns whether a port with these keys is of this kind.
-fn is_port(alloc: Global, keys: &str, want: &PortSpec) -> Result<bool, PlanFault> {
+pub(super) fn is_port(alloc: Global, keys: &str, want: &PortSpec) -> Result<bool, PlanFault> {
     let text = format!(in alloc; "{NETWORK}{keys}\n")?;
     let (_, ports) = read_plan(alloc, text.as_bytes())?;
     Ok(are_ports(&ports, want))
@@ -25,7 +25,7 @@ fn memory(alloc: Global) -> Result<PortSpec, PlanFault> {
 }
 
 /// Returns a text of the plan.
-fn text(alloc: Global, word: &str) -> Result<Text, PlanFault> {
+pub(super) fn text(alloc: Global, word: &str) -> Result<Text, PlanFault> {
     Ok(Text::from_string(String::from_str(alloc, word)?))
 }
 
@@ -54,6 +54,7 @@ fn socket(alloc: Global, listens: bool, stays: bool) -> Result<PortSpec, PlanFau
         path,
         listens,
         stays,
+        framing: LengthField::Two,
     })
 }
 
@@ -97,7 +98,7 @@ fn is_socket(alloc: Global, keys: &str, listens: bool, stays: bool) -> Result<bo
 }
 
 #[test]
-fn ports_are_of_five_kinds(rt: HostRuntime) -> Result<(), PlanFault> {
+fn ports_without_sockets_are_of_four_kinds(rt: HostRuntime) -> Result<(), PlanFault> {
     assert!(rt; is_memory(rt.alloc())?);
     assert!(rt; is_capture(rt.alloc(), "", Pace::AtOnce, Stamp::Ticks)?);
     assert!(rt; is_capture(rt.alloc(), "stamp = \"ticks\"", Pace::AtOnce, Stamp::Ticks)?);

@@ -23,6 +23,11 @@ const RECORD: &str =
 const SOCKET: &str =
     "{ name = 'S', bridge = 'B', port = 3, service = 'red', kind = 'socket', listen = 's' }";
 
+/// A port over datagrams.
+const UDP: &str =
+    "{ name = 'U', bridge = 'B', port = 5, service = 'red', kind = 'udp', local = '[::1]:4789', \
+    remote = '[::1]:4790', vni = 0 }";
+
 /// The keys of the network, ports, and whether a run of them is lossless.
 const ROWS: &[(&str, [&str; 2], bool)] = &[
     ("", [MEMORY, CAPTURE], true),
@@ -31,6 +36,10 @@ const ROWS: &[(&str, [&str; 2], bool)] = &[
     ("", [RECORD, CAPTURE], true),
     ("lossless = 'auto'", [MEMORY, CAPTURE], true),
     ("lossless = 'auto'", [SOCKET, CAPTURE], false),
+    ("", [MEMORY, UDP], false),
+    ("", [UDP, CAPTURE], false),
+    ("lossless = 'auto'", [MEMORY, UDP], false),
+    ("lossless = true", [UDP, MEMORY], true),
     ("lossless = true", [SOCKET, CAPTURE], true),
     ("lossless = false", [MEMORY, CAPTURE], false),
 ];

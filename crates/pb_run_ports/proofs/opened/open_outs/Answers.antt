@@ -2,7 +2,7 @@ use Rattle.std.proofs.Common.{◌≡◌, ◌++◌, ap, map, rules}
 use Rattle.std.proofs.lemmas.Result.{err_from_is_err_and}
 use Rattle.std.specs.Vec.Iter.{into_iter_items}
 use Rattle.pb_run_ports.specs.Opened.{opening, shown, written}
-use Rattle.pb_run_ports.proofs.DeedLemmas.{begun_none, begun_more, has_begun_more}
+use Rattle.pb_run_ports.proofs.DeedLemmas.{begun_none, begun_more, has_begun_more, has_begun_still}
 use Rattle.pb_run_ports.proofs.MoveLemmas.{moved_over}
 use Rattle.pb_run_ports.proofs.opened.open_outs.Goals as goal
 
@@ -32,5 +32,15 @@ returns-in_err-push-clause-err g c =
       has_begun_more _ _ _ _ _ (opening (shown c.in-Some.port).write)
           (written (map shown (into_iter_items c.next.new.self))) _ c.loop-port.invariant.done
           (ap (λ ports. written (map shown ports)) c.in-Some.ensures.steps.0) c.in_ok-port.ensures.ok.0
+          (ap (λ ports. written (map shown ports)) given),
+    )
+
+pub returns-in_err-port-clause-err : goal.returns-in_err-port-clause-err
+returns-in_err-port-clause-err g c =
+    let p = err_from_is_err_and c.from_residual.result c.from_residual.ensures.1 in
+    let given : into_iter_items c.into_iter-port-iterator.result ≡ c.args.ports.items = search rules in
+    rw (p.1, p.2) (
+      c.in_err-port.ensures.err.0,
+      has_begun_still _ _ _ _ _ _ c.loop-port.invariant.done c.in_err-port.ensures.err.1
           (ap (λ ports. written (map shown ports)) given),
     )

@@ -11,7 +11,7 @@ use Rattle.pb_service.proofs.Zips.{zip_next, zip_all}
 use Rattle.pb_service.proofs.Refusing.{memory_passed, table_passed, row_at}
 use Rattle.pb_service.proofs.Distinctness.{distinct_none, name_next, names_all, used_next, ports_all}
 use Rattle.pb_service.proofs.Ends.{few_names, flat_next, first_rows, port_of_customer, customer_passed, port_passed}
-use Rattle.pb_service.proofs.Ends.{files_passed, customers_whole, specs_whole}
+use Rattle.pb_service.proofs.Ends.{port_spec_passed, customers_whole, specs_whole}
 use Rattle.pb_service.proofs.port.read_customers.Goals as goal
 
 pub returns-in_err-bridge_names-clause-err : goal.returns-in_err-bridge_names-clause-err
@@ -36,7 +36,7 @@ pub returns-in_err-spec-clause-err : goal.returns-in_err-spec-clause-err
 returns-in_err-spec-clause-err c =
     let rows = ap (map (λ t. table_view t.now)) c.as_slice-rows.ensures.value ∙ c.in_ok-rows.ensures.ok in
     let at = row_at (table_view c.args.document.now) Port _ _ _ _ rows c.loop-index-test.true c.index-rows-index.is in
-    files_passed (table_view c.args.document.now) _ c.args.limits c.loop-index.index _ _ c.requires.document.0 at
+    port_spec_passed (table_view c.args.document.now) _ c.args.limits c.loop-index.index _ _ c.requires.document.0 at
     (err_from_is_err_and _ c.from_residual-in_err-spec.ensures.1) c.in_err-spec.ensures.err
 
 pub returns-in_err-check_row-clause-err : goal.returns-in_err-check_row-clause-err

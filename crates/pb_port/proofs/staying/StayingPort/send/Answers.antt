@@ -32,6 +32,6 @@ returns-then-has_failed-clause-octets g c =
       sent = found.1;
       fails = pumped_fails c.pump-pumped.result us w.unsent.items (g.S.Device.failed p.line)
           (g.S.Device.failed line) pumped;
-      leaves = leaves_same g.S.Line.renews _ n _ (length us - n) line _ p c.leave.new.self sent rest refl refl refl
+      leaves = leaves_same g.S.Line.renews _ n _ (length us - n) line _ p c.leave.new.self sent rest refl refl refl refl
           c.leave.ensures.leaves;
     })

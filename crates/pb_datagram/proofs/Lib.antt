@@ -1,0 +1,4 @@
+pub mod HeaderLemmas
+pub mod GrowthLemmas
+pub mod FindingLemmas
+pub mod DepartureLemmas

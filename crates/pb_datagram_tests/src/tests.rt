@@ -1,0 +1,8 @@
+//! Ports over datagrams.
+
+mod cases;
+mod device;
+mod headers;
+mod receiving;
+mod sending;
+mod sockets;
