@@ -1,5 +1,9 @@
 //! The traces of frames in plan files.
 
+ghost use Rattle.std.specs.Prelude.{◌≡◌, ◌≢◌, IfErr, IfOk};
+ghost use Rattle.std.specs.Io.KnownBytes.{Keeps};
+ghost use Rattle.pb_cmd_trace.specs.Traces.{HasTold, RunsIntoLimit};
+
 mod failures;
 mod plans;
 
@@ -7,6 +11,7 @@ use pb_cmd_trace::{Asked, Entry, TraceEnd, run_trace};
 use pb_fakes::{Full, Unflushed};
 use pb_messages::CommandFault;
 use std::alloc::{AllocError, Global};
+use std::io::Write;
 use std::process::Abort;
 use std::test::Fail;
 
@@ -45,6 +50,23 @@ fn words_of(alloc: Global, texts: &[&str]) -> Result<Vec<String>, AllocError> {
     Ok(words)
 }
 
+/// Calls `run_trace` with what a caller may conclude: the traces of the frames in the network of the plan in the file, a
+/// name that it does not have, or the rule that it breaks, and when each error comes.
+fn traced<W: Write>(
+    alloc: Global,
+    file: &[u8],
+    asked: &Asked<'_>,
+    writer: &mut W,
+) -> Result<TraceEnd, CommandFault>
+    ensures ok { IfOk result (λ end. HasTold file.now asked.now end (W.contents writer.old)
+        (W.contents writer.new)) }
+    ensures kinds { IfErr result (λ e. e ≢ CommandFault.Read) }
+    ensures steps { IfErr result (λ e. e ≡ CommandFault.Steps → RunsIntoLimit file.now) }
+    ensures none { IfErr result (λ e. e ≢ CommandFault.Write → Keeps (W.contents writer.old) (W.contents writer.new)) }
+{
+    run_trace(alloc, file, asked, writer)
+}
+
 /// A plan file, the frames to inject, the most ticks if the bridges converge first, the end, and the text.
 type Row<'a> = (
     &'a str,
@@ -71,7 +93,7 @@ fn is_told(
         settle: *settle,
     };
     let mut output = Vec::new(alloc);
-    let told = run_trace(alloc, plan.as_bytes(), &asked, &mut output);
+    let told = traced(alloc, plan.as_bytes(), &asked, &mut output);
     assert_eq!(rt; told, Ok(*end), "row {number}");
     let text = std::str::from_utf8(output.as_slice()).unwrap_or("");
     assert_eq!(rt; text, *want, "row {number}");
@@ -362,7 +384,7 @@ fn a_frame_that_goes_round_is_told_so(rt: HostRuntime) -> Result<(), Fail> {
     for (plan, refused) in [(plans::RING, 19), (plans::NARROW_RING, 82)] {
         let entries = entries_of(alloc, &[("C1", BROADCAST), ("C9", BROADCAST)])?;
         let mut output = Vec::new(alloc);
-        let told = run_trace(alloc, plan.as_bytes(), &asked_of(&entries), &mut output);
+        let told = traced(alloc, plan.as_bytes(), &asked_of(&entries), &mut output);
         assert_eq!(rt; told, Ok(TraceEnd::Told));
         let text = std::str::from_utf8(output.as_slice()).unwrap_or("");
         let end = format!(in alloc;
@@ -383,9 +405,9 @@ fn writes_that_fail_are_told(rt: HostRuntime) -> Result<(), Fail> {
     let entries = entries_of(alloc, &[("C1", BROADCAST)])?;
     let file = plans::TWO.as_bytes();
     let asked = asked_of(&entries);
-    let told = run_trace(alloc, file, &asked, &mut Full { room: 5 });
+    let told = traced(alloc, file, &asked, &mut Full { room: 5 });
     assert_eq!(rt; told, Err(CommandFault::Write));
-    let told = run_trace(alloc, file, &asked, &mut Unflushed);
+    let told = traced(alloc, file, &asked, &mut Unflushed);
     assert_eq!(rt; told, Err(CommandFault::Write));
     Ok(())
 }

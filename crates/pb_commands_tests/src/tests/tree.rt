@@ -1,11 +1,16 @@
 //! The trees of plan files.
 
+ghost use Rattle.std.specs.Prelude.{◌≡◌, ◌≢◌, IfErr, IfOk};
+ghost use Rattle.std.specs.Io.KnownBytes.{Keeps};
+ghost use Rattle.pb_cmd_tree.specs.Trees.{HasTold, RunsIntoLimit};
+
 mod drawn;
 
 use pb_cmd_tree::{DownFault, TreeEnd, run_tree};
 use pb_fakes::{Full, Unflushed};
 use pb_messages::CommandFault;
 use std::alloc::{AllocError, Global};
+use std::io::Write;
 use std::process::Abort;
 use std::test::Fail;
 
@@ -139,6 +144,24 @@ fn words_of(alloc: Global, texts: &[&str]) -> Result<Vec<String>, AllocError> {
     Ok(words)
 }
 
+/// Calls `run_tree` with what a caller may conclude: the trees of the network of the plan in the file, a name that it
+/// does not have, or the rule that it breaks, and when each error comes.
+fn grown<W: Write>(
+    alloc: Global,
+    file: &[u8],
+    downs: &[String],
+    ticks: u32,
+    writer: &mut W,
+) -> Result<TreeEnd, CommandFault>
+    ensures ok { IfOk result (λ end.
+        HasTold file.now downs.now ticks end (W.contents writer.old) (W.contents writer.new)) }
+    ensures kinds { IfErr result (λ e. e ≢ CommandFault.Read) }
+    ensures steps { IfErr result (λ e. e ≡ CommandFault.Steps → RunsIntoLimit file.now) }
+    ensures none { IfErr result (λ e. e ≢ CommandFault.Write → Keeps (W.contents writer.old) (W.contents writer.new)) }
+{
+    run_tree(alloc, file, downs, ticks, writer)
+}
+
 /// A plan file, the names to disable, the most ticks, the end, and the text.
 type Row<'a> = (&'a str, &'a [&'a str], u32, TreeEnd, &'a str);
 
@@ -147,7 +170,7 @@ fn tells(rt: &impl Abort, alloc: Global, rows: &[Row]) -> Result<(), Fail> {
     for (number, (plan, downs, ticks, end, want)) in rows.iter().enumerate() {
         let words = words_of(alloc, downs)?;
         let mut output = Vec::new(alloc);
-        let told = run_tree(
+        let told = grown(
             alloc,
             plan.as_bytes(),
             words.as_slice(),
@@ -340,7 +363,7 @@ fn wrong_names_are_refused(rt: HostRuntime) -> Result<(), Fail> {
 #[test]
 fn writes_that_fail_are_told(rt: HostRuntime) {
     let alloc = rt.alloc();
-    let told = run_tree(
+    let told = grown(
         alloc,
         drawn::ONE.as_bytes(),
         &[],
@@ -348,6 +371,6 @@ fn writes_that_fail_are_told(rt: HostRuntime) {
         &mut Full { room: 5 },
     );
     assert_eq!(rt; told, Err(CommandFault::Write));
-    let told = run_tree(alloc, drawn::ONE.as_bytes(), &[], 200, &mut Unflushed);
+    let told = grown(alloc, drawn::ONE.as_bytes(), &[], 200, &mut Unflushed);
     assert_eq!(rt; told, Err(CommandFault::Write));
 }

@@ -1,10 +1,16 @@
 //! The reports on the change from one plan to another.
 
+ghost use Rattle.std.specs.Prelude.{◌≡◌, ◌≢◌, List, ℕ, IfErr, IfOk};
+ghost use Rattle.std.specs.Io.KnownBytes.{Appends, Keeps};
+ghost use Rattle.pb_cmd_diff.specs.Diffs.{IsDiffText};
+
 mod plans;
 
 use pb_cmd_diff::{Asked, Compared, DiffEnd, run_diff};
 use pb_cmd_survive::{FailureProgress, Kinds};
+use pb_messages::CommandFault;
 use std::alloc::Global;
+use std::io::Write;
 use std::process::Abort;
 use std::test::Fail;
 use std::thread::Threads;
@@ -50,6 +56,24 @@ const BRIDGES: Asked = Asked {
     ..ALL
 };
 
+/// Calls `run_diff` with what a caller may conclude: the report on the plans in the files, or the rule that one of them
+/// breaks, and when each error comes.
+fn compared<R: Threads + Sync, W: Write>(
+    rt: &R,
+    alloc: Global,
+    old_file: &[u8],
+    new_file: &[u8],
+    asked: &Asked<'_>,
+    writer: &mut W,
+) -> Result<DiffEnd, CommandFault>
+    ensures ok { IfOk result (λ end. (text : List ℕ) × Appends (W.contents writer.old) (W.contents writer.new) text
+        × IsDiffText old_file.now new_file.now asked.now end text) }
+    ensures kinds { IfErr result (λ e. e ≢ CommandFault.Read) }
+    ensures none { IfErr result (λ e. e ≢ CommandFault.Write → Keeps (W.contents writer.old) (W.contents writer.new)) }
+{
+    run_diff(rt, alloc, old_file, new_file, asked, &Silent, writer)
+}
+
 /// Checks the report on two plan files, and how the command ends.
 fn says<R: Abort + Threads + Sync>(
     rt: &R,
@@ -61,7 +85,7 @@ fn says<R: Abort + Threads + Sync>(
 ) -> Result<(), Fail> {
     let mut output = Vec::new(alloc);
     let (old, new) = (files.0.as_bytes(), files.1.as_bytes());
-    let result = run_diff(rt, alloc, old, new, asked, &Silent, &mut output);
+    let result = compared(rt, alloc, old, new, asked, &mut output);
     let text = std::str::from_utf8(output.as_slice()).unwrap_or("");
     assert_eq!(rt; text, want);
     assert_eq!(rt; result, Ok(end));
