@@ -1,5 +1,9 @@
 //! The reports on networks under failures.
 
+ghost use Rattle.std.specs.Prelude.{◌≡◌, ◌≢◌, List, ℕ, IfErr, IfOk};
+ghost use Rattle.std.specs.Io.KnownBytes.{Appends, Keeps};
+ghost use Rattle.pb_cmd_survive.specs.Survivals.{IsSurviveText};
+
 mod accepting;
 mod counted;
 mod draft;
@@ -12,6 +16,7 @@ use pb_cmd_survive::{Asked, DownFault, Kinds, Scope, SurviveEnd, run_survive};
 use pb_fakes::{Full, Unflushed};
 use pb_messages::CommandFault;
 use std::alloc::Global;
+use std::io::Write;
 use std::process::Abort;
 use std::test::Fail;
 use std::thread::Threads;
@@ -56,6 +61,24 @@ struct Row<'a> {
     text: &'a str,
 }
 
+/// Calls `run_survive` with what a caller may conclude: the report on the network of the plan in the file under each
+/// failure, or the rule that it breaks, and when each error comes.
+fn examined<R: Threads + Sync, W: Write>(
+    rt: &R,
+    alloc: Global,
+    file: &[u8],
+    asked: &Asked<'_>,
+    progress: &Counted,
+    writer: &mut W,
+) -> Result<SurviveEnd, CommandFault>
+    ensures ok { IfOk result (λ end. (text : List ℕ) × Appends (W.contents writer.old) (W.contents writer.new) text
+        × IsSurviveText file.now asked.now end text) }
+    ensures kinds { IfErr result (λ e. e ≢ CommandFault.Read) }
+    ensures none { IfErr result (λ e. e ≢ CommandFault.Write → Keeps (W.contents writer.old) (W.contents writer.new)) }
+{
+    run_survive(rt, alloc, file, asked, progress, writer)
+}
+
 /// Checks the report on a network and its exit status, twice.
 fn says<R: Abort + Threads + Sync>(rt: &R, alloc: Global, row: &Row<'_>) -> Result<(), Fail> {
     let file = plan_file(alloc, row.draft)?;
@@ -69,7 +92,7 @@ fn says<R: Abort + Threads + Sync>(rt: &R, alloc: Global, row: &Row<'_>) -> Resu
     for _ in 0..2 {
         let mut output = Vec::new(alloc);
         let progress = Counted::new();
-        let result = run_survive(rt, alloc, file.as_bytes(), &asked, &progress, &mut output);
+        let result = examined(rt, alloc, file.as_bytes(), &asked, &progress, &mut output);
         let text = std::str::from_utf8(output.as_slice()).unwrap_or("");
         assert_eq!(rt; text, row.text);
         assert_eq!(rt; result, Ok(ended(row.status)));
@@ -275,7 +298,7 @@ fn a_refused_file_tells_the_rule(rt: HostRuntime) -> Result<(), Fail> {
     let alloc = rt.alloc();
     let mut output = Vec::new(alloc);
     let progress = Counted::new();
-    let result = run_survive(&rt, alloc, b"x", &any(), &progress, &mut output);
+    let result = examined(&rt, alloc, b"x", &any(), &progress, &mut output);
     assert_eq!(rt; result, Ok(ended(1)));
     assert_eq!(rt; progress.counts(), (0, 0, 1));
     assert!(rt; output.as_slice() == b"plan: 2 toml\n".as_slice());
@@ -287,7 +310,7 @@ fn a_plan_without_service_does_not_survive(rt: HostRuntime) -> Result<(), Fail> 
     let alloc = rt.alloc();
     let mut output = Vec::new(alloc);
     let progress = Counted::new();
-    let result = run_survive(&rt, alloc, b"", &any(), &progress, &mut output);
+    let result = examined(&rt, alloc, b"", &any(), &progress, &mut output);
     assert_eq!(rt; result, Ok(ended(4)));
     assert_eq!(rt; progress.counts(), (0, 0, 1));
     assert!(rt; output.as_slice() == texts::EMPTY.as_bytes());
@@ -323,7 +346,7 @@ fn says_with_down<R: Abort + Threads + Sync>(
     let asked = red_without(names.as_slice());
     let mut output = Vec::new(alloc);
     let progress = Counted::new();
-    let result = run_survive(rt, alloc, file.as_bytes(), &asked, &progress, &mut output);
+    let result = examined(rt, alloc, file.as_bytes(), &asked, &progress, &mut output);
     let said = std::str::from_utf8(output.as_slice()).unwrap_or("");
     assert_eq!(rt; said, text);
     assert_eq!(rt; result, Ok(end));
@@ -372,7 +395,7 @@ fn each_failure_is_looked_at_once(rt: HostRuntime) -> Result<(), Fail> {
     };
     let mut output = Vec::new(alloc);
     let progress = Counted::new();
-    let result = run_survive(&rt, alloc, file.as_bytes(), &asked, &progress, &mut output);
+    let result = examined(&rt, alloc, file.as_bytes(), &asked, &progress, &mut output);
     assert_eq!(rt; result, Ok(ended(4)));
     assert_eq!(rt; progress.counts(), (27, 27, 1));
     Ok(())
@@ -384,7 +407,7 @@ fn a_look_that_meets_a_fault_ends_all(rt: HostRuntime) -> Result<(), Fail> {
     let file = plan_file(alloc, &networks::BRIEF)?;
     let mut output = Vec::new(alloc);
     let progress = Counted::new();
-    let result = run_survive(&rt, alloc, file.as_bytes(), &any(), &progress, &mut output);
+    let result = examined(&rt, alloc, file.as_bytes(), &any(), &progress, &mut output);
     assert_eq!(rt; result, Err(CommandFault::Steps));
     assert!(rt; output.is_empty());
     assert_eq!(rt; progress.counts(), (3, 3, 1));
@@ -396,9 +419,9 @@ fn a_failed_write_is_told(rt: HostRuntime) -> Result<(), Fail> {
     let alloc = rt.alloc();
     let progress = Counted::new();
     let mut writer = Full { room: 5 };
-    let full = run_survive(&rt, alloc, b"", &any(), &progress, &mut writer);
+    let full = examined(&rt, alloc, b"", &any(), &progress, &mut writer);
     assert_eq!(rt; full, Err(CommandFault::Write));
-    let unflushed = run_survive(&rt, alloc, b"", &any(), &progress, &mut Unflushed);
+    let unflushed = examined(&rt, alloc, b"", &any(), &progress, &mut Unflushed);
     assert_eq!(rt; unflushed, Err(CommandFault::Write));
     Ok(())
 }
