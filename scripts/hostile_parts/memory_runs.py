@@ -75,7 +75,7 @@ def wrong_run(room, ended, _):
 def is_told(ended):
     """Checks whether a run names memory. A table has no line for its end: then standard error has frames in transit."""
     is_cut = b"frames in transit" in ended.err and ended.out.startswith(b"kind,")
-    return b"memory" in ended.out + ended.err or b"spawn" in ended.out or is_cut or refusals.is_memory(ended)
+    return b"memory" in ended.out + ended.err or b"spawn" in ended.out or is_cut or refusals.is_memory(ended, ended)
 
 
 def outputs(room):
@@ -264,6 +264,15 @@ def is_asked(room, library, number):
     return bool(room.read("refused"))
 
 
+def wait_for_ports(path):
+    """Waits until both bridges of a run say the state of their port to the other: each answer has all lines from then on."""
+    for _ in range(100):
+        ended = subprocess.run([PROGRAM, "control", path, "tree"], capture_output=True, check=False, timeout=30)
+        if ended.stdout.count(b"\n") == 3:
+            return
+        time.sleep(0.05)
+
+
 def client(part, library, most):
     """Refuses the requests of `control`, beside a run that has all memory."""
     with part.room("client") as room:
@@ -272,6 +281,7 @@ def client(part, library, most):
         run = room.start(PROGRAM, "run", "--control", "control", "plan.toml")
         common.wait_for(room.path / "control")
         path = room.path / "control"
+        wait_for_ports(path)
         for kind, words, given in (("control", ["control", path, *ASKED], b""),
                                    ("control, standard input", ["control", path, "-"], b"counts\nhelp\ntree\n"),
                                    ("control, a wrong command", ["control", path, "cuonts"], b"")):

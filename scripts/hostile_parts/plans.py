@@ -35,7 +35,7 @@ def try_plan(part, kind, number, plan, words):
         room.write("whole.toml", BRIDGE)
         before = room.names()
         ended = room.run(PROGRAM, *words, "plan.toml")
-        is_many = ended.status is None and "--all" in words and "unknown keys" in str(number)
+        is_many = "--all" in words and "unknown keys" in str(number)
         weakness = "many errors" if is_many else None
         part.judge(kind, wrong_refusal(ended, before, room.names()), room, ended, weakness)
 

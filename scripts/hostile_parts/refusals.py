@@ -42,8 +42,16 @@ def whole(library):
     return refusing(library, 4_000_000_000, 4_000_000_000)
 
 
-def is_faulty(text):
-    """Checks whether a document says that an allocation failed, and claims nothing else."""
+def errors_in(text):
+    """Returns the errors of a plan that a document names."""
+    try:
+        return json.loads(text)["plan_fault"]["errors"]
+    except (ValueError, KeyError, TypeError):
+        return []
+
+
+def is_faulty(text, errors):
+    """Checks whether a document says that an allocation failed, and claims nothing else but some of these errors."""
     try:
         document = json.loads(text)
     except ValueError:
@@ -53,20 +61,23 @@ def is_faulty(text):
     claims = {"command", "version", "plan", "old_plan", "fault", "warnings", "losses", "drops", "paths"}
     rest = {key: value for key, value in document.items() if key not in claims and value != []}
     refused = rest.pop("plan_fault", {"fault": "memory", "rule": 11})
-    return not rest and (refused["fault"], refused["rule"], refused.get("errors", [])) == ("memory", 11, [])
+    is_known = all(it in errors for it in refused.get("errors", []))
+    return not rest and is_known and (refused["fault"], refused["rule"]) == ("memory", 11)
 
 
-def is_memory(ended):
-    """Checks whether a command claims nothing but that an allocation failed."""
-    text = ended.out.decode("utf-8", "replace").strip()
-    is_table = b"csv" in b" ".join(map(os.fsencode, ended.words)) and text in ("", *TITLES)
-    return ended.status == 3 and (text in LACKS or is_table or is_faulty(text))
+def is_memory(ended, there):
+    """Checks whether a command claims nothing but that an allocation failed, in a file that it writes perhaps, and errors
+    of the plan that it names with all memory too."""
+    text, words = ended.out.decode("utf-8", "replace").strip(), [*map(os.fsencode, ended.words)]
+    is_table = b"csv" in b" ".join(words) and text in ("", *TITLES)
+    is_unwritten = b"-o" in words and text == "fault: write"
+    return ended.status == 3 and (text in LACKS or is_table or is_unwritten or is_faulty(text, errors_in(there.out)))
 
 
 def wrong_verdict(_, ended, there):
     """The output and the status are those with all memory, or name the fault. Standard error has no other lines."""
     is_same = (ended.status, ended.out) == (there.status, there.out)
-    if not (is_same or is_memory(ended)):
+    if not (is_same or is_memory(ended, there)):
         return f"another verdict: exit status {ended.status}, and {there.status} with all memory"
     more = set(ended.complaints().splitlines()) - set(there.complaints().splitlines())
     odd = [it for it in more if "memory" not in it]
@@ -75,7 +86,7 @@ def wrong_verdict(_, ended, there):
 
 def wrong_answer(_, ended, there):
     """The first line that differs from the whole output names memory, or comes from a source that was not learnt."""
-    if ended.out == there.out or is_memory(ended):
+    if ended.out == there.out or is_memory(ended, there):
         return None if ended.status in (there.status, 3) else f"exit status {ended.status}, expected {there.status}"
     is_fault = ended.status == 3 and '"fault": "memory"' in ended.out.decode("utf-8", "replace")
     here, wanted = ([it.strip(' ",') for it in ended.lines()] for ended in (ended, there))

@@ -5,6 +5,8 @@ from hostile_parts.attack import PROGRAM, misfit
 
 # A number of a frame that no link carries: a link that loses frames by the plan has every tick performed.
 NEVER = "lost_ab = [1000000000]\n"
+# The most links of a plan.
+MOST_LINKS = 64
 # What pictures say of a link that loses frames, and what of an SVG picture its links' labels do not move.
 LOSES = re.compile(rb" \(loses\)|, loses \d+ to [\w-]+ and \d+ to [\w-]+")
 ATTRIBUTES = re.compile(rb' (?:id|class|data-[a-z]+)="[^"]*"|<title>[^<]*')
@@ -29,7 +31,7 @@ def network(chance, more):
     for it in range(count):
         text += f'[[bridge]]\nname = "B{it}"\naddress = "02-00-00-00-00-{it:02x}"\nqueue = {queue}\n'
         text += f"priority = {4096 * chance.randrange(3)}\n" if count < 20 else ""
-    for number, (one, two) in enumerate(choose_links(chance, count)):
+    for number, (one, two) in enumerate(choose_links(chance, count)[:MOST_LINKS]):
         if max(used[one], used[two]) > 12:
             continue
         used[one] += 1
