@@ -2,15 +2,21 @@
 
 use super::tally::{CountedStep, DONE, step, take};
 use pb_history::Steps;
+use pb_lan::Step;
 use std::alloc::{AllocError, Global};
 use std::test::Fail;
+
+/// Checks whether the copy of a step is equal to it.
+fn is_copied(step: &Step) -> Result<bool, AllocError> {
+    let copy = step.clone()?;
+    Ok(copy == *step)
+}
 
 /// Checks whether the copy of each step is equal to it.
 fn steps_copy(alloc: Global) -> Result<bool, AllocError> {
     for counted in DONE {
         let step = step(alloc, *counted)?;
-        let copy = step.clone()?;
-        if copy != step {
+        if !is_copied(&step)? {
             return Ok(false);
         }
     }
@@ -25,9 +31,8 @@ fn copies_of_steps_are_equal(rt: HostRuntime) -> Result<(), Fail> {
 
 /// Takes one more step if space for it is reserved.
 fn take_one(alloc: Global, steps: &mut Steps) -> Result<(), AllocError> {
-    let step = step(alloc, CountedStep::Poll)?;
     if steps.has_room() {
-        let _ = steps.append(step);
+        let _ = steps.append(step(alloc, CountedStep::Poll)?);
     }
     Ok(())
 }
