@@ -269,7 +269,8 @@ class Drain:
 READERS = {"a late reader": (0.5, 0), "a slow reader": (0, 0.003), "a late and slow reader": (1.5, 0.003)}
 # The table that writes a pipe, and the one that writes the same to a file.
 WRITERS = {"a port": (RECORD, ""), "a tap": (tap("R2.out"), tap("R3.out"))}
-WAITS = re.compile(rb"(port P|tap of link L1): waiting until its pipe is read\n")
+# What standard error may have: that the run waits, and that B2 has no port for the frames of a tapped link.
+NOTES = re.compile(rb"(port P|tap of link L1): waiting until its pipe is read\n|bridge B2 port 16: \d+ frames dropped: no-port\n")
 
 
 def reads(part):
@@ -286,7 +287,7 @@ def reads(part):
                 why = crash(ended) or (None if ended.status == 0 else f"exit status {ended.status}")
                 if not why and got != wanted:
                     why = f"the reader got {len(got)} octets, and the file {len(wanted)}"
-                if not why and WAITS.sub(b"", ended.err):
+                if not why and NOTES.sub(b"", ended.err):
                     why = "standard error has more than a note"
                 part.judge(f"outputs, {reader} of {writer}", why, room, ended)
 

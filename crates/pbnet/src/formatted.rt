@@ -104,6 +104,23 @@ impl<'a, R: Print + AllocGlobal> Output<'a, R> {
         }
     }
 
+    /// Returns how a run ended, if it is to become a table, which does not say so, and it was neither drained nor stopped.
+    pub(crate) fn hidden_end(&self) -> Option<&str> {
+        let Ok(text) = str::from_utf8(self.kept.as_slice()) else {
+            return None;
+        };
+        let mut lines = text.lines();
+        let line = lines.next()?;
+        let is_cut_short = line.starts_with("ended ")
+            && line != "ended drained"
+            && line != "ended stopped";
+        if self.format == ReportFormat::Csv && is_cut_short {
+            Some(line)
+        } else {
+            None
+        }
+    }
+
     /// Returns the exit status of the command, or 3 after the line `fault: memory` if a plan file was refused because
     /// an allocation failed.
     pub(crate) fn ended(&mut self, status: ExitCode) -> ExitCode {

@@ -192,7 +192,8 @@ fn new_traffic(alloc: Global) -> Result<Arc<Traffic, Global>, AllocError> {
 }
 
 /// Runs the network of a plan file, and prints the report in the form of the options. A JSON document also has what is
-/// reported on `errors`: losses, paths that could not be used, and warnings. Returns the exit status.
+/// reported on `errors`: losses, paths that could not be used, and warnings. If the form is a table, `errors` has how a
+/// run ended that was neither drained nor stopped. Returns the exit status.
 fn run<R, E: Write>(
     rt: &R,
     options: &RunOptions,
@@ -215,6 +216,10 @@ where
     let mut noted = Noted::new(rt.alloc(), errors);
     let told = run_on(rt, options, shown, input, &mut out, &mut noted);
     let status = noted.end(options.format, &mut out, told);
+    if let Some(line) = out.hidden_end() {
+        let _ = noted.write_all(line.as_bytes());
+        let _ = noted.write_all("\n".as_bytes());
+    }
     out.end(&RUN, Some(&COUNTS), status)
 }
 
