@@ -194,6 +194,36 @@ fn have_same_machines(alloc: Global, one: &Net, other: &Net, plan: &Plan) -> Res
     Ok(ones.len() == others.len() && pairs.into_iter().all(|(a, b)| a.is_same(b)))
 }
 
+/// Checks that two networks that keep their steps perform all rounds, by `settle` and by `stand`, and are the same then.
+fn perform_all_rounds(
+    rt: &impl Abort,
+    alloc: Global,
+    plan: &Plan,
+    net: &mut Net,
+    long: &mut Net,
+) -> Result<(), Fail>
+    requires sound { IsSound plan.now }
+    requires one { net.old.plan ≡ plan.now }
+    requires other { long.old.plan ≡ plan.now }
+{
+    let settled = settle(alloc, net, plan, 200, 1_000_000);
+    assert_eq!(rt; settled, Ok(Rest::Unsettled(200)));
+    assert_eq!(rt; stand(long, plan, 200, 1_000_000), Ok(()));
+    assert_eq!(rt; (ticks_of(long), ticks_of(net)), (200, 200));
+    assert!(rt; have_same_machines(alloc, net, long, plan)?);
+    Ok(())
+}
+
+/// Disables the first link of a ring, and checks that the network and its copy perform all rounds.
+fn go_round_without_a_link(rt: &impl Abort, alloc: Global, plan: &Plan) -> Result<(), Fail>
+    requires { IsSound plan.now }
+{
+    let mut net = Net::new(alloc, plan.clone()?)?;
+    assert!(rt; falls(&mut net, 1, 1) && falls(&mut net, 2, 2));
+    let mut long = net.clone()?;
+    perform_all_rounds(rt, alloc, plan, &mut net, &mut long)
+}
+
 /// Checks a ring of 24 bridges without a link, which is longer than information lasts: its bridges never settle. Their
 /// machines recur, but a network that keeps its steps performs all rounds.
 #[test]
@@ -204,16 +234,5 @@ fn a_network_that_keeps_its_steps_performs_all_rounds(rt: HostRuntime) -> Result
     let Ok((plan, _ports)) = read_plan(alloc, file.as_slice()) else {
         panic!(rt; "no plan");
     };
-    let mut net = Net::new(alloc, plan.clone()?)?;
-    assert!(rt; falls(&mut net, 1, 1) && falls(&mut net, 2, 2));
-    let mut long = net.clone()?;
-    assert_eq!(rt;
-        settle(alloc, &mut net, &plan, 200, 1_000_000),
-        Ok(Rest::Unsettled(200))
-    );
-    assert_eq!(rt; stand(&mut long, &plan, 200, 1_000_000), Ok(()));
-    assert_eq!(rt; ticks_of(&long), 200);
-    assert_eq!(rt; ticks_of(&net), 200);
-    assert!(rt; have_same_machines(alloc, &net, &long, &plan)?);
-    Ok(())
+    go_round_without_a_link(&rt, alloc, &plan)
 }
