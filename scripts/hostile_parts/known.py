@@ -7,4 +7,6 @@ WEAKNESSES = {
     "characters",
     "file size": "a capture that reaches the limit of `ulimit -f` ends the program itself by SIGXFSZ, without a report, "
     "and is cut off within a record: ./pbnet has the program ignore that signal",
+    "a signal to the program itself": "SIGINT, SIGTERM or SIGHUP to the program itself, and not to the launcher ./pbnet, "
+    "ends it at once, and a capture can then be cut off within a record: the toolchain has no handlers of signals",
 }
