@@ -18,7 +18,7 @@ use Rattle.pb_rstp.specs.Settling.{is_updated, with_update}
 use Rattle.pb_rstp.specs.declared.message.Offer.{Offer}
 use Rattle.pb_rstp.specs.declared.moving.Moving.{Moving}
 use Rattle.pb_rstp.specs.declared.moving.Heard.{Heard}
-use Rattle.pb_rstp.specs.Machine.{settle, moved_by}
+use Rattle.pb_rstp.specs.Machine.{settle, moving, moved_by}
 use Rattle.pb_rstp.specs.Profile.{after}
 use Rattle.pb_rstp.specs.Laws.{IsQuiet, IsInLine}
 use Rattle.pb_rstp.specs.Readings.{AreAbove}
@@ -189,6 +189,11 @@ start_is_in_line prompt id ports above = record {
 pub above_zero : (n : ℕ) (ports : List RstpPort) → AreAbove n ports → AllByRecursion (λ p. 1 ≤ p.port) ports
 above_zero n [] h = tt
 above_zero n (p ∷ ps) h = (omega (arith, h.0.0), above_zero p.port ps h.1)
+
+-- the ports at the start, as the code makes them
+pub fresh_now : (ports : List RstpPort) → nows (map (λ p. moving (λ q. q) (fresh p)) ports) ≡ map fresh ports
+fresh_now [] = refl
+fresh_now (p ∷ ps) = ap (λ qs. fresh p ∷ qs) (fresh_now ps)
 
 -- the ports at the start have rising numbers
 pub fresh_rising : (n : ℕ) (ports : List RstpPort) → AreAbove n ports

@@ -12,7 +12,7 @@ use Rattle.pb_frame.specs.Lists.{first}
 use Rattle.pb_rstp.specs.Changes.{IsSamePort, AreSamePorts, AreMoving, IsSameBridge}
 use Rattle.pb_rstp.specs.Machine.{moved_by, settle, takes_place, with_news, has_agreed, with_answer, hearing}
 use Rattle.pb_rstp.specs.Machine.{with_timers, opened_by, opened, with_opening, is_hello, with_hello, ticking}
-use Rattle.pb_rstp.specs.Machine.{with_admin, setting}
+use Rattle.pb_rstp.specs.Machine.{with_admin, setting, own_change}
 use Rattle.pb_rstp.specs.Messages.{is_young, info_of}
 use Rattle.pb_rstp.specs.Ports.{Machine, is_designated, fwd_delay_of, port_of}
 use Rattle.pb_lan.specs.Shapes.{is_forwarding}
@@ -27,6 +27,8 @@ use Rattle.pb_rstp.specs.Settling.{with_topology, after_sending, with_sent, in_l
 use Rattle.pb_rstp.specs.Settling.{with_updates, offer_by}
 use Rattle.pb_rstp.specs.declared.moving.Heard.{Heard}
 use Rattle.pb_rstp.specs.declared.moving.Moving.{Moving}
+use Rattle.pb_rstp.specs.declared.own_change.OwnChange.{OwnChange}
+use Rattle.pb_rstp.specs.declared.own_change.OwnChange.TheVariants.{Hearing, Ticking, Setting}
 use Rattle.pb_rstp.specs.declared.port.Port.{Port}
 use Rattle.pb_rstp.specs.declared.vector.Vector.{Vector}
 use Rattle.pb_rstp.proofs.RoleLaws.{Keeps, keeps-agreement, keeps-state, keeps-synced, keeps-agreeing, keeps-tc_while}
@@ -303,11 +305,8 @@ same_admin false p = record { number = refl; cost = refl; priority = refl }
 pub same_setting : (port : ℕ) (up : Bool) (p : Port) → IsSamePort p (setting port up p)
 same_setting port up p = same_port-if (p.number == port) p (with_admin up p) p (same_admin up p) (is_same_port p)
 
--- the ports that a call moves are those of the bridge that its caller sees
-pub moving_of : (old now : Machine) (change : Port → Port) → ((p : Port) → IsSamePort p (change p)) → old ≡ now
-    → (ms : List Moving)
-    → ms ≡ moved_by change old.ports → AreMoving now.ports ms
-moving_of old now change same view ms e =
-    let P : Machine → Type 0 = λ m. AreMoving m.ports ms in
-    let Q : List Moving → Type 0 = λ xs. AreMoving old.ports xs in
-    subst P view (subst Q (sym e) (moving_by change same old.ports))
+-- every call's own change keeps the port
+pub same_own : (own : OwnChange) (p : Port) → IsSamePort p (own_change own p)
+same_own (Hearing root port m) p = same_hearing root port m p
+same_own (Ticking fwd_delay hello) p = same_ticking fwd_delay hello p
+same_own (Setting port up) p = same_setting port up p

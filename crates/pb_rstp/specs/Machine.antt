@@ -14,6 +14,8 @@ use Rattle.pb_rstp.specs.Settling.{nows, settled, with_sent, change_of}
 use Rattle.pb_rstp.specs.declared.moving.Moving.{Moving}
 use Rattle.pb_rstp.specs.declared.moving.Heard.{Heard}
 use Rattle.pb_rstp.specs.declared.change.Change.{Change}
+use Rattle.pb_rstp.specs.declared.own_change.OwnChange.{OwnChange}
+use Rattle.pb_rstp.specs.declared.own_change.OwnChange.TheVariants.{Hearing, Ticking, Setting}
 use Rattle.pb_rstp.specs.declared.vector.Vector.{Vector}
 
 -- a bridge after a call, and the changes that the call returns
@@ -189,3 +191,11 @@ admin_by machine port up (Some p) =
 -- the port with this number is enabled or disabled
 abbrev pub after_admin : Machine → ℕ → Bool → After
 after_admin machine port up = admin_by machine port up (port_of machine.ports port)
+
+-- A call's own change, as the code holds it.
+
+-- a port with a call's own change
+abbrev pub own_change : OwnChange → Port → Port
+own_change (Hearing root port m) p = hearing root port m p
+own_change (Ticking fwd_delay hello) p = ticking fwd_delay hello p
+own_change (Setting port up) p = setting port up p

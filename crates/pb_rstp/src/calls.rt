@@ -1,84 +1,56 @@
-//! The three calls: a BPDU is received, a second passes, a port is enabled or disabled.
+//! The three calls: a BPDU is received, a second passes, a port is enabled or disabled. Each works in place over the
+//! bridge's ports, and allocates no more than the lists that it returns.
 
 ghost use Rattle.std.specs.Prelude.{◌≡◌, ◌-◌, IfOk, OnOk, OnErr, nat_lt, not, if◌then◌else◌};
-ghost use Rattle.pb_rstp.specs.Changes.{AreMoving, IsSameBridge, HoldsOldRoots, NamesChanges};
+ghost use Rattle.pb_rstp.specs.Changes.{IsSameBridge, HoldsOldRoots, NamesChanges};
 ghost use Rattle.pb_rstp.specs.Laws.{IsInLine};
-ghost use Rattle.pb_rstp.specs.Machine.{settle, after_hear, after_tick, after_admin, is_same_setting};
-ghost use Rattle.pb_rstp.specs.Readings.{roles_of, states_of};
-ghost use Rattle.pb_rstp.specs.Settling.{nows, settled, with_sent, change_of};
+ghost use Rattle.pb_rstp.specs.Machine.{settle, after_hear, after_tick, after_admin, is_same_setting, moved_by};
+ghost use Rattle.pb_rstp.specs.Machine.{own_change};
+ghost use Rattle.pb_rstp.specs.Settling.{nows, settled, with_sent, change_of, offer_by};
 
 use crate::change::Change;
-use crate::hearing::{heard_at, hearing_at};
+use crate::hearing::heard_at;
+use crate::message::{Offer, offer_by};
 use crate::moving::{Heard, Moving};
-use crate::port::{Port, fwd_delay_of, port_of};
-use crate::role::Role;
-use crate::roles::root_vector;
-use crate::rstp::{Rstp, roles_of, states_of};
-use crate::sending::{change_of, settled, with_sent};
-use crate::setting::setting_at;
-use crate::settle::nows;
-use crate::ticking::ticking_all;
+use crate::own_change::{OwnChange, undo};
+use crate::port::{fwd_delay_of, port_of};
+use crate::rstp::Rstp;
+use crate::sending::{change_of, send, settle};
+use crate::told::{tell_roles, tell_states};
 use pb_bpdu::Bpdu;
 use pb_frame::Memory;
-use pb_lan::PortState;
 use std::alloc::Global;
 
-/// The variables after a call, and the changes that it reports.
-#[derive(Drop)]
-struct Settled {
-    ports: Vec<Port>,
-    roles: Vec<(u8, Role)>,
-    states: Vec<(u8, PortState)>,
-    change: Change,
-}
-
-/// Returns the ports after all is brought into line and the BPDUs are sent, and the changes.
-fn sent(
+/// Changes the ports of a bridge as a call does, from its own change to the BPDUs that are sent, and returns the
+/// changes. Takes what the bridge offered before the call. If an allocation failed, each port is as before the call.
+fn run(
     alloc: Global,
     prompt: bool,
     id: u64,
     heard: Option<Heard>,
-    ports: &[Moving],
-) -> Result<(Vec<Port>, Change), Memory>
-    ensures ports { IfOk result (λ s. s.0.items ≡ nows (with_sent (settled prompt id heard ports.now))) }
-    ensures change { IfOk result (λ s. s.1 ≡ change_of id heard (settled prompt id heard ports.now)) }
+    before: &Offer,
+    own: &OwnChange,
+    ports: &mut [Moving],
+) -> Result<Change, Memory>
+    requires { before.now ≡ offer_by id (nows ports.old) }
+    ensures ports { OnOk result (ports.new
+        ≡ with_sent (settled prompt id heard (moved_by (own_change own.now) (nows ports.old)))) }
+    ensures change { IfOk result (λ change. change
+        ≡ change_of id heard (settled prompt id heard (moved_by (own_change own.now) (nows ports.old)))) }
+    ensures err { OnErr result (nows ports.new ≡ nows ports.old) }
 {
-    let settled = settled(alloc, prompt, id, heard, ports)?;
-    let sent = with_sent(alloc, &settled)?;
-    let ports = nows(alloc, &sent)?;
-    Ok((ports, change_of(alloc, id, heard, &settled)?))
-}
-
-/// Returns the role and the state of each port.
-fn told_of(alloc: Global, ports: &[Port]) -> Result<(Vec<(u8, Role)>, Vec<(u8, PortState)>), Memory>
-    ensures roles { IfOk result (λ told. told.0.items ≡ roles_of ports.now) }
-    ensures states { IfOk result (λ told. told.1.items ≡ states_of ports.now) }
-{
-    let roles = roles_of(alloc, ports)?;
-    Ok((roles, states_of(alloc, ports)?))
-}
-
-/// Brings all into line.
-fn settle(
-    alloc: Global,
-    prompt: bool,
-    id: u64,
-    heard: Option<Heard>,
-    ports: &[Moving],
-) -> Result<Settled, Memory>
-    ensures ports { IfOk result (λ s. s.ports.items ≡ nows (with_sent (settled prompt id heard ports.now))) }
-    ensures roles { IfOk result (λ s. s.roles.items ≡ roles_of s.ports.items) }
-    ensures states { IfOk result (λ s. s.states.items ≡ states_of s.ports.items) }
-    ensures change { IfOk result (λ s. s.change ≡ change_of id heard (settled prompt id heard ports.now)) }
-{
-    let (ports, change) = sent(alloc, prompt, id, heard, ports)?;
-    let (roles, states) = told_of(alloc, &ports)?;
-    Ok(Settled {
-        ports,
-        roles,
-        states,
-        change,
-    })
+    own.begin(ports);
+    settle(prompt, id, heard, before, ports);
+    match change_of(alloc, id, heard, ports) {
+        Ok(change) => {
+            send(ports);
+            Ok(change)
+        }
+        Err(fault) => {
+            undo(ports);
+            Err(fault)
+        }
+    }
 }
 
 /// Returns whether `hello_when` expires at this tick.
@@ -103,33 +75,43 @@ fn is_same_setting(port_enabled: bool, up: bool) -> bool
 }
 
 impl Rstp {
-    /// Brings all into line, and stores the result with the new `hello_when`.
+    /// Runs a call with its own change, and stores the new `hello_when`. Takes what the bridge offers before.
     fn conclude(
         &mut self,
         hello_when: u8,
         heard: Option<Heard>,
-        ports: &[Moving],
+        before: &Offer,
+        own: &OwnChange,
     ) -> Result<Change, Memory>
-        requires { AreMoving self.old.ports ports.now }
-        ensures ok { OnOk result (self.new ≡ (settle self.old.prompt self.old.id hello_when heard ports.now).machine) }
-        ensures change { IfOk result (λ change. change
-            ≡ (settle self.old.prompt self.old.id hello_when heard ports.now).change) }
+        requires { before.now ≡ offer_by self.old.id self.old.ports }
+        ensures ok { OnOk result (self.new ≡ (settle self.old.prompt self.old.id hello_when heard
+            (moved_by (own_change own.now) self.old.ports)).machine) }
+        ensures change { IfOk result (λ change. change ≡ (settle self.old.prompt self.old.id hello_when heard
+            (moved_by (own_change own.now) self.old.ports)).change) }
         ensures same { OnOk result (IsSameBridge self.old self.new) }
         ensures old_roots { OnOk result (HoldsOldRoots self.old self.new) }
         ensures named { IfOk result (λ change. NamesChanges self.old self.new change) }
         ensures in_line { IsInLine self.new }
         ensures err { OnErr result (self.new ≡ self.old) }
     {
-        let settled = settle(self.alloc, self.prompt, self.id, heard, ports)?;
-        self.ports = settled.ports;
-        self.roles = settled.roles;
-        self.states = settled.states;
+        let change = run(
+            self.alloc,
+            self.prompt,
+            self.id,
+            heard,
+            before,
+            own,
+            &mut self.ports,
+        )?;
+        tell_roles(&self.ports, &mut self.roles);
+        tell_states(&self.ports, &mut self.states);
         self.hello_when = hello_when;
-        Ok(settled.change)
+        Ok(change)
     }
 
     /// Handles a BPDU that a port receives, and returns the changes (IEEE 802.1D-2004 clause 17.23, the Port Receive
-    /// machine). A BPDU for a disabled port, or for a port that the bridge lacks, changes nothing.
+    /// machine). A BPDU for a disabled port, or for a port that the bridge lacks, changes nothing. Allocates only the
+    /// lists that it returns, and nothing if they are empty.
     ///
     /// # Errors
     ///
@@ -185,16 +167,20 @@ impl Rstp {
         if !p.port_enabled {
             return Ok(Change::nothing(self.alloc));
         }
-        let hello_when = self.hello_when;
-        let root = root_vector(self.id, &self.ports);
-        let ports = hearing_at(self.alloc, &root, p.number, m, &self.ports)?;
+        let before = offer_by(self.id, &self.ports);
+        let own = OwnChange::Hearing {
+            root: before.root,
+            port: p.number,
+            bpdu: *m,
+        };
         let heard = heard_at(m, &p);
-        let change = self.conclude(hello_when, Some(heard), &ports)?;
+        let hello_when = self.hello_when;
+        let change = self.conclude(hello_when, Some(heard), &before, &own)?;
         Ok(change)
     }
 
     /// Advances the timers by one second, and returns the changes (IEEE 802.1D-2004 clause 17.22, the Port Timers
-    /// machine).
+    /// machine). Allocates only the lists that it returns, and nothing if they are empty.
     ///
     /// # Errors
     ///
@@ -239,16 +225,19 @@ impl Rstp {
 
         ensures err { OnErr result (self.new ≡ self.old) }
     {
-        let fwd_delay = fwd_delay_of(&self.ports);
-        let hello = is_hello_tick(self.hello_when);
-        let ports = ticking_all(self.alloc, fwd_delay, hello, &self.ports)?;
+        let before = offer_by(self.id, &self.ports);
+        let own = OwnChange::Ticking {
+            fwd_delay: fwd_delay_of(&self.ports),
+            hello: is_hello_tick(self.hello_when),
+        };
         let hello_when = hello_when_after(self.hello_when);
-        let change = self.conclude(hello_when, None, &ports)?;
+        let change = self.conclude(hello_when, None, &before, &own)?;
         Ok(change)
     }
 
     /// Enables or disables a port, and returns the changes (IEEE 802.1D-2004 clause 17.19.18, portEnabled). A call with
-    /// the value that the port has already, or for a port that the bridge lacks, changes nothing.
+    /// the value that the port has already, or for a port that the bridge lacks, changes nothing. Allocates only the
+    /// lists that it returns, and nothing if they are empty.
     ///
     /// # Errors
     ///
@@ -274,9 +263,10 @@ impl Rstp {
         if is_same_setting(p.port_enabled, up) {
             return Ok(Change::nothing(self.alloc));
         }
+        let before = offer_by(self.id, &self.ports);
+        let own = OwnChange::Setting { port, up };
         let hello_when = self.hello_when;
-        let ports = setting_at(self.alloc, port, up, &self.ports)?;
-        let change = self.conclude(hello_when, None, &ports)?;
+        let change = self.conclude(hello_when, None, &before, &own)?;
         Ok(change)
     }
 }

@@ -1,16 +1,15 @@
 //! A BPDU is received.
 
-ghost use Rattle.std.specs.Prelude.{◌≡◌, IfOk};
+ghost use Rattle.std.specs.Prelude.{◌≡◌, Some, None, if◌then◌else◌};
 ghost use Rattle.pb_rstp.specs.Machine.{takes_place, is_stored, with_news, has_agreed, with_answer, hearing};
-ghost use Rattle.pb_rstp.specs.Machine.{heard_at, moved_by};
+ghost use Rattle.pb_rstp.specs.Machine.{heard_at};
+ghost use Rattle.pb_rstp.specs.Messages.{is_young, info_of};
 
 use crate::message::{info_of, is_agreement, is_from_designated, is_superior, is_young};
-use crate::moving::{Heard, Moving};
-use crate::port::Port;
+use crate::moving::Heard;
+use crate::port::{Info, Port};
 use crate::vector::Vector;
 use pb_bpdu::Bpdu;
-use pb_frame::Memory;
-use std::alloc::Global;
 
 /// Returns whether the BPDU replaces the stored information.
 fn takes_place(m: &Bpdu, p: &Port) -> bool
@@ -26,19 +25,19 @@ fn is_stored(m: &Bpdu, p: &Port) -> bool
     takes_place(m, p) && is_young(m)
 }
 
-/// Returns the port with the information that it stores after the BPDU.
-fn with_news(m: &Bpdu, p: &Port) -> Port
-    ensures { result ≡ with_news m.now p.now }
+/// Returns the information of the BPDU, or None if it is too old to be stored.
+fn news_of(m: &Bpdu) -> Option<Info>
+    ensures { result ≡ (if is_young m.now then Some (info_of m.now) else None) }
 {
-    if !takes_place(m, p) {
-        *p
-    } else if is_young(m) {
-        Port {
-            info: Some(info_of(m)),
-            ..*p
-        }
-    } else {
-        Port { info: None, ..*p }
+    if is_young(m) { Some(info_of(m)) } else { None }
+}
+
+/// Stores the BPDU at the port, if it replaces the stored information.
+fn store_news(m: &Bpdu, p: &mut Port)
+    ensures { p.new ≡ with_news m.now p.old }
+{
+    if takes_place(m, p) {
+        p.info = news_of(m);
     }
 }
 
@@ -49,27 +48,26 @@ fn has_agreed(root: &Vector, m: &Bpdu, p: &Port) -> bool
     is_agreement(m) && p.role.is_designated() && m.root == root.root
 }
 
-fn with_answer(root: &Vector, m: &Bpdu, p: &Port) -> Port
-    ensures { result ≡ with_answer root.now m.now p.now }
+/// Sets `agreed`, if the neighbour agrees.
+fn record_answer(root: &Vector, m: &Bpdu, p: &mut Port)
+    ensures { p.new ≡ with_answer root.now m.now p.old }
 {
     if has_agreed(root, m, p) {
-        Port { agreed: true, ..*p }
-    } else {
-        *p
+        p.agreed = true;
     }
 }
 
-fn hearing(root: &Vector, port: u8, m: &Bpdu, p: &Port) -> Port
-    ensures { result ≡ hearing root.now port m.now p.now }
+/// Changes the port, if it has this number: it receives the BPDU.
+pub(crate) fn receive(root: &Vector, port: u8, m: &Bpdu, p: &mut Port)
+    ensures { p.new ≡ hearing root.now port m.now p.old }
 {
     if p.number == port {
-        with_answer(root, m, &with_news(m, p))
-    } else {
-        *p
+        store_news(m, p);
+        record_answer(root, m, p);
     }
 }
 
-/// Returns the BPDU, its port and whether it was stored, for the steps that follow.
+/// Returns the BPDU, its port and whether it is stored, for the steps that follow.
 pub(crate) fn heard_at(m: &Bpdu, p: &Port) -> Heard
     ensures { result ≡ heard_at m.now p.now }
 {
@@ -78,25 +76,4 @@ pub(crate) fn heard_at(m: &Bpdu, p: &Port) -> Heard
         bpdu: *m,
         stored: is_stored(m, p),
     }
-}
-
-/// Returns the ports after the port of this number received the BPDU.
-pub(crate) fn hearing_at(
-    alloc: Global,
-    root: &Vector,
-    port: u8,
-    m: &Bpdu,
-    ports: &[Port],
-) -> Result<Vec<Moving>, Memory>
-    ensures { IfOk result (λ moved. moved.items ≡ moved_by (hearing root.now port m.now) ports.now) }
-{
-    Ok(
-        ports
-            .iter()
-            .map(|p| Moving {
-                was: *p,
-                now: hearing(root, port, m, p),
-            })
-            .collect(alloc)?,
-    )
 }

@@ -9,6 +9,7 @@ mod laws;
 mod message;
 mod moving;
 mod network;
+mod own_change;
 mod port;
 mod proposal;
 mod role;
@@ -18,6 +19,7 @@ mod sending;
 mod setting;
 mod settle;
 mod ticking;
+mod told;
 mod topology;
 mod vector;
 

@@ -1,11 +1,12 @@
 //! The BPDUs that a bridge sends, and the information that it stores from received ones.
 
 ghost use Rattle.std.specs.Prelude.{◌≡◌};
-ghost use Rattle.pb_rstp.specs.Messages.{times_by, message, message_of, is_from_designated, is_agreement, told, known};
+ghost use Rattle.pb_rstp.specs.Messages.{times_by, message, is_from_designated, is_agreement, told, known};
 ghost use Rattle.pb_rstp.specs.Messages.{is_superior, is_young, info_of, is_same_times};
-ghost use Rattle.pb_rstp.specs.Settling.{offer_by, is_same_offer};
+ghost use Rattle.pb_rstp.specs.Settling.{nows, offer_by, is_same_offer};
 ghost use Rattle.pb_rstp.specs.Vectors.{is_before};
 
+use crate::moving::Moving;
 use crate::port::{Info, Port, is_discarding, is_forwarding, root_info};
 use crate::roles::root_vector;
 use crate::vector::Vector;
@@ -40,8 +41,8 @@ pub(crate) struct Offer {
 }
 
 /// Returns what the Designated ports of a bridge with these ports offer.
-pub(crate) fn offer_by(id: u64, ports: &[Port]) -> Offer
-    ensures { result ≡ offer_by id ports.now }
+pub(crate) fn offer_by(id: u64, ports: &[Moving]) -> Offer
+    ensures { result ≡ offer_by id (nows ports.now) }
 {
     Offer {
         root: root_vector(id, ports),
@@ -79,9 +80,10 @@ fn times_by(info: Option<Info>) -> Times
     }
 }
 
-/// Returns the BPDU of a port, from the bridge's identifier, root vector and times.
-fn message(id: u64, root: &Vector, times: &Times, p: &Port) -> Bpdu
-    ensures { result ≡ message id root.now times.now p.now }
+/// Returns the BPDU of a port, from the bridge's identifier, root vector and times (IEEE 802.1D-2004 clause 17.21.20,
+/// txRstp).
+pub(crate) fn message(id: u64, offer: &Offer, p: &Port) -> Bpdu
+    ensures { result ≡ message id offer.now.root offer.now.times p.now }
 {
     Bpdu {
         change: p.tc_while > 0,
@@ -90,22 +92,15 @@ fn message(id: u64, root: &Vector, times: &Times, p: &Port) -> Bpdu
         learning: !is_discarding(p.state),
         forwarding: is_forwarding(p.state),
         agreement: p.agree,
-        root: root.root,
-        cost: root.cost,
+        root: offer.root.root,
+        cost: offer.root.cost,
         bridge: id,
         port: p.id(),
-        age: times.message_age,
-        max_age: times.max_age,
-        hello: times.hello_time,
-        delay: times.forward_delay,
+        age: offer.times.message_age,
+        max_age: offer.times.max_age,
+        hello: offer.times.hello_time,
+        delay: offer.times.forward_delay,
     }
-}
-
-/// Returns the BPDU of a port of the bridge (IEEE 802.1D-2004 clause 17.21.20, txRstp).
-pub(crate) fn message_of(id: u64, ports: &[Port], p: &Port) -> Bpdu
-    ensures { result ≡ message_of id ports.now p.now }
-{
-    message(id, &root_vector(id, ports), &times_by(root_info(ports)), p)
 }
 
 /// Returns whether a Designated port sent the BPDU.

@@ -3,7 +3,7 @@
 use crate::port::Port;
 use pb_bpdu::Bpdu;
 
-/// A port as it was before the call and as it is at this point of the call.
+/// A port as it was before the latest call, and as it is at this point of that call or after it.
 #[derive(Clone, Copy, PartialEq, Eq, Debug)]
 pub(crate) struct Moving {
     pub(crate) was: Port,

@@ -9,7 +9,9 @@ ghost use Rattle.pb_rstp.specs.Laws.{IsInLine};
 ghost use Rattle.pb_rstp.specs.Tree.{IsSettled, AreMachines, NoneHeld, AreForests, offered, is_quiet, stores_test};
 ghost use Rattle.pb_rstp.specs.Tree.{leads_test, place_at, is_settled_between};
 ghost use Rattle.pb_rstp.specs.Places.{place_of};
+ghost use Rattle.pb_rstp.specs.Settling.{nows};
 
+use crate::moving::Moving;
 use crate::port::{Port, is_discarding, port_of};
 use crate::rstp::Rstp;
 use pb_lan::{End, LinkPlan, Plan};
@@ -28,10 +30,15 @@ fn is_quiet(p: &Port) -> bool
     p.role.is_root_or_designated() || is_discarding(p.state)
 }
 
-fn are_quiet(ports: &[Port]) -> bool
-    ensures { result ≡ list_all is_quiet ports.now }
+fn are_quiet(ports: &[Moving]) -> bool
+    ensures { result ≡ list_all is_quiet (nows ports.now) }
 {
-    ports.iter().all(|p| is_quiet(p))
+    for p in ports {
+        if !is_quiet(&p.now) {
+            return false;
+        }
+    }
+    true
 }
 
 /// Returns whether each port has the role that follows from the root vector, and only Root and Designated ports do more

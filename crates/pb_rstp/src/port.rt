@@ -3,9 +3,11 @@
 ghost use Rattle.std.specs.Prelude.{◌≡◌, ◌↔◌, IsTrue};
 ghost use Rattle.pb_rstp.specs.Ports.{id_of, stored_vector, root_path, designated_vector, port_of, root_info};
 ghost use Rattle.pb_rstp.specs.Ports.{fwd_delay_of, fresh, is_discarding};
+ghost use Rattle.pb_rstp.specs.Settling.{nows};
 ghost use Rattle.pb_lan.specs.Shapes.{is_forwarding};
 
 use crate::config::RstpPort;
+use crate::moving::Moving;
 use crate::role::Role;
 use crate::vector::Vector;
 use pb_lan::PortState;
@@ -136,12 +138,12 @@ pub(crate) fn is_forwarding(state: PortState) -> bool
 }
 
 /// Returns the port of this number.
-pub(crate) fn port_of(ports: &[Port], number: u8) -> Option<Port>
-    ensures { result ≡ port_of ports.now number }
+pub(crate) fn port_of(ports: &[Moving], number: u8) -> Option<Port>
+    ensures { result ≡ port_of (nows ports.now) number }
 {
     for p in ports {
-        if p.number == number {
-            return Some(*p);
+        if p.now.number == number {
+            return Some(p.now);
         }
     }
     None
@@ -196,14 +198,14 @@ fn is_same(a: &Port, b: &Port) -> bool
 }
 
 /// Returns whether the ports are as many, and each has the same variables as the other of its place.
-pub(crate) fn are_same(a: &[Port], b: &[Port]) -> bool
-    ensures { IsTrue result ↔ (a.now ≡ b.now) }
+pub(crate) fn are_same(a: &[Moving], b: &[Moving]) -> bool
+    ensures { IsTrue result ↔ (nows a.now ≡ nows b.now) }
 {
     if a.len() != b.len() {
         return false;
     }
     for i in 0..a.len() {
-        if !is_same(&a[i], &b[i]) {
+        if !is_same(&a[i].now, &b[i].now) {
             return false;
         }
     }
@@ -211,12 +213,12 @@ pub(crate) fn are_same(a: &[Port], b: &[Port]) -> bool
 }
 
 /// Returns the information that the Root port stores, if the bridge has a Root port.
-pub(crate) fn root_info(ports: &[Port]) -> Option<Info>
-    ensures { result ≡ root_info ports.now }
+pub(crate) fn root_info(ports: &[Moving]) -> Option<Info>
+    ensures { result ≡ root_info (nows ports.now) }
 {
     for p in ports {
-        if p.role.is_root() {
-            return p.info;
+        if p.now.role.is_root() {
+            return p.now.info;
         }
     }
     None
@@ -224,8 +226,8 @@ pub(crate) fn root_info(ports: &[Port]) -> Option<Info>
 
 /// Returns the ticks for which a port stays Discarding and then Learning: FwdDelay (IEEE 802.1D-2004 clause 17.20.6).
 /// It is 15 at the root bridge. Otherwise it is the stored Forward Delay of the Root port, at least 1.
-pub(crate) fn fwd_delay_of(ports: &[Port]) -> u16
-    ensures { result ≡ fwd_delay_of ports.now }
+pub(crate) fn fwd_delay_of(ports: &[Moving]) -> u16
+    ensures { result ≡ fwd_delay_of (nows ports.now) }
 {
     match root_info(ports) {
         None => 15,

@@ -1,15 +1,14 @@
 //! Proposals are agreed to.
 
-ghost use Rattle.std.specs.Prelude.{◌≡◌, IfOk};
+ghost use Rattle.std.specs.Prelude.{◌≡◌, if◌then◌else◌};
 ghost use Rattle.std.specs.List.{list_any};
+ghost use Rattle.pb_rstp.specs.Ports.{fwd_delay_of};
 ghost use Rattle.pb_rstp.specs.Settling.{nows, each, moved_on, is_proposed, is_agreeing, is_root_agreeing, synced};
 ghost use Rattle.pb_rstp.specs.Settling.{agreeing, with_agreement_at, with_proposal};
 
 use crate::moving::{Heard, Moving};
 use crate::port::{Port, fwd_delay_of, is_discarding};
-use crate::settle::{held_back, nows};
-use pb_frame::Memory;
-use std::alloc::Global;
+use crate::settle::hold_back;
 
 /// Returns whether the BPDU is a proposal that was stored.
 fn is_proposed(heard: &Heard) -> bool
@@ -33,11 +32,11 @@ fn is_root_agreeing(number: u8, p: &Port) -> bool
 }
 
 /// Returns whether the port of this number is the Root port.
-fn has_root_agreeing(number: u8, ports: &[Port]) -> bool
-    ensures { result ≡ list_any (is_root_agreeing number) ports.now }
+fn has_root_agreeing(number: u8, ports: &[Moving]) -> bool
+    ensures { result ≡ list_any (is_root_agreeing number) (nows ports.now) }
 {
     for p in ports {
-        if is_root_agreeing(number, p) {
+        if is_root_agreeing(number, &p.now) {
             return true;
         }
     }
@@ -45,73 +44,62 @@ fn has_root_agreeing(number: u8, ports: &[Port]) -> bool
 }
 
 /// Holds back a Designated port whose neighbour has not agreed. The call forms no forwarding loop then.
-fn synced(fwd_delay: u16, p: &Moving) -> Moving
-    ensures { result ≡ moved_on (synced fwd_delay) p.entry.now }
+fn sync(fwd_delay: u16, p: &mut Moving)
+    ensures { p.exit.now ≡ moved_on (synced fwd_delay) p.entry.now }
 {
     if p.now.role.is_designated() && !p.now.agreed && !is_discarding(p.now.state) {
-        p.becomes(held_back(fwd_delay, &p.now))
-    } else {
-        *p
+        hold_back(fwd_delay, &mut p.now);
     }
 }
 
-/// Returns the port with `agree` and `new_info` set, if it is the one that agrees.
-fn agreeing(number: u8, p: &Moving) -> Moving
-    ensures { result ≡ moved_on (agreeing number) p.entry.now }
+/// Holds back each Designated port whose neighbour has not agreed.
+fn sync_all(fwd_delay: u16, ports: &mut [Moving])
+    ensures { ports.new ≡ each (synced fwd_delay) ports.old }
+{
+    for p in ports.iter_mut() {
+        sync(fwd_delay, p);
+    }
+}
+
+/// Holds back each Designated port whose neighbour has not agreed, if the port of this number is the Root port (IEEE
+/// 802.1D-2004 clause 17.21.14, setSyncTree).
+fn sync_behind_root(number: u8, ports: &mut [Moving])
+    ensures { ports.new ≡ (if list_any (is_root_agreeing number) (nows ports.old)
+        then each (synced (fwd_delay_of (nows ports.old))) ports.old else ports.old) }
+{
+    if has_root_agreeing(number, ports) {
+        let fwd_delay = fwd_delay_of(ports);
+        sync_all(fwd_delay, ports);
+    }
+}
+
+/// Sets `agree` and `new_info`, if the port is the one that agrees.
+fn agree(number: u8, p: &mut Moving)
+    ensures { p.exit.now ≡ moved_on (agreeing number) p.entry.now }
 {
     if is_agreeing(number, &p.now) {
-        p.becomes(Port {
-            agree: true,
-            new_info: true,
-            ..p.now
-        })
-    } else {
-        *p
+        p.now.agree = true;
+        p.now.new_info = true;
     }
 }
 
-fn with_synced(alloc: Global, fwd_delay: u16, ports: &[Moving]) -> Result<Vec<Moving>, Memory>
-    ensures { IfOk result (λ moved. moved.items ≡ each (synced fwd_delay) ports.now) }
+/// Sets `agree` at the port of this number. If it is the Root port, the others are held back first.
+fn agree_at(number: u8, ports: &mut [Moving])
+    ensures { ports.new ≡ with_agreement_at number ports.old }
 {
-    Ok(ports.iter().map(|p| synced(fwd_delay, p)).collect(alloc)?)
-}
-
-fn with_agreeing(alloc: Global, number: u8, ports: &[Moving]) -> Result<Vec<Moving>, Memory>
-    ensures { IfOk result (λ moved. moved.items ≡ each (agreeing number) ports.now) }
-{
-    Ok(ports.iter().map(|p| agreeing(number, p)).collect(alloc)?)
-}
-
-/// Sets `agree` at the port of this number. If it is the Root port, the others are held back first (IEEE 802.1D-2004
-/// clause 17.21.14, setSyncTree).
-fn with_agreement_at(alloc: Global, number: u8, ports: &[Moving]) -> Result<Vec<Moving>, Memory>
-    ensures { IfOk result (λ moved. moved.items ≡ with_agreement_at number ports.now) }
-{
-    let all = nows(alloc, ports)?;
-    if has_root_agreeing(number, &all) {
-        let held = with_synced(alloc, fwd_delay_of(&all), ports)?;
-        Ok(with_agreeing(alloc, number, &held)?)
-    } else {
-        Ok(with_agreeing(alloc, number, ports)?)
+    sync_behind_root(number, ports);
+    for p in ports.iter_mut() {
+        agree(number, p);
     }
 }
 
 /// Agrees to a stored proposal: step 5 of 8.
-pub(crate) fn with_proposal(
-    alloc: Global,
-    heard: Option<Heard>,
-    ports: Vec<Moving>,
-) -> Result<Vec<Moving>, Memory>
-    ensures { IfOk result (λ moved. moved.items ≡ with_proposal heard ports.items) }
+pub(crate) fn answer_proposal(heard: Option<Heard>, ports: &mut [Moving])
+    ensures { ports.new ≡ with_proposal heard ports.old }
 {
-    match heard {
-        None => Ok(ports),
-        Some(heard) => {
-            if is_proposed(&heard) {
-                Ok(with_agreement_at(alloc, heard.port, &ports)?)
-            } else {
-                Ok(ports)
-            }
+    if let Some(heard) = heard {
+        if is_proposed(&heard) {
+            agree_at(heard.port, ports);
         }
     }
 }

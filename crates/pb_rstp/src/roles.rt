@@ -2,7 +2,9 @@
 
 ghost use Rattle.std.specs.Prelude.{◌≡◌, option_to_list};
 ghost use Rattle.pb_rstp.specs.Roles.{offers, best, root_vector, came_from, role_by, other_role};
+ghost use Rattle.pb_rstp.specs.Settling.{nows};
 
+use crate::moving::Moving;
 use crate::port::{Info, Port};
 use crate::role::Role;
 use crate::vector::Vector;
@@ -33,12 +35,12 @@ fn better(vector: Vector, way: Option<Vector>) -> Vector
 
 /// Returns the root vector: the least of the bridge's own vector and the paths through its ports (IEEE 802.1D-2004
 /// clause 17.6).
-pub(crate) fn root_vector(id: u64, ports: &[Port]) -> Vector
-    ensures { result ≡ root_vector id ports.now }
+pub(crate) fn root_vector(id: u64, ports: &[Moving]) -> Vector
+    ensures { result ≡ root_vector id (nows ports.now) }
 {
     let mut root = Vector::own(id);
     for p in ports {
-        root = better(root, offer(id, p));
+        root = better(root, offer(id, &p.now));
     }
     root
 }

@@ -2,16 +2,20 @@
 
 ghost use Rattle.std.specs.Prelude.{◌≡◌, ◌↔◌, map, IfOk, IsSome, IsTrue, Some, true, false};
 ghost use Rattle.pb_rstp.specs.Laws.{IsInLine};
+ghost use Rattle.pb_rstp.specs.Machine.{moving};
 ghost use Rattle.pb_rstp.specs.Ports.{start, fresh, port_of};
 ghost use Rattle.pb_rstp.specs.Readings.{AreAbove, numbers_of, roles_of, states_of, root_of, vector_at, stored_at};
 ghost use Rattle.pb_rstp.specs.Rising.{AreRising};
 ghost use Rattle.pb_rstp.specs.Roles.{IsRootVector};
+ghost use Rattle.pb_rstp.specs.Settling.{nows};
 ghost use Rattle.pb_rstp.specs.Vectors.{bridge_id};
 
 use crate::config::{Config, RstpPort, bridge_id};
+use crate::moving::Moving;
 use crate::port::{Port, are_same, port_of};
 use crate::role::Role;
 use crate::roles::root_vector;
+use crate::told::{tell_roles, tell_states};
 use crate::vector::Vector;
 use pb_frame::Memory;
 use pb_lan::PortState;
@@ -29,7 +33,8 @@ pub struct Rstp {
     pub(crate) id: u64,
     /// A port that stays Designated sends as soon as what it offers changes.
     pub(crate) prompt: bool,
-    pub(crate) ports: Vec<Port>,
+    /// The ports, by rising number. Calls change them in place.
+    pub(crate) ports: Vec<Moving>,
     /// Ticks until the next periodic BPDUs: helloWhen (IEEE 802.1D-2004 clause 17.17.3), one for all ports.
     pub(crate) hello_when: u8,
     /// The role of each port.
@@ -41,38 +46,59 @@ pub struct Rstp {
 impl Model for Rstp {
     ghost use Rattle.pb_rstp.specs.Ports.{Machine};
     ghost use Rattle.pb_rstp.specs.Readings.{IsTold};
+    ghost use Rattle.pb_rstp.specs.Settling.{nows};
 
     ghost Value = { Machine };
 
-    ghost view = { λ r. record { id = r.id; prompt = r.prompt; ports = r.ports.items; hello_when = r.hello_when } };
+    ghost view = { λ r. record {
+      id = r.id;
+      prompt = r.prompt;
+      ports = nows r.ports.items;
+      hello_when = r.hello_when;
+    } };
 
     ghost invariant = { λ r. IsTold (record {
       id = r.id;
       prompt = r.prompt;
-      ports = r.ports.items;
+      ports = nows r.ports.items;
       hello_when = r.hello_when;
     }) r.roles.items r.states.items };
 }
 
-/// Returns the ports with their values at start.
-fn fresh_ports(alloc: Global, ports: &[RstpPort]) -> Result<Vec<Port>, Memory>
-    ensures { IfOk result (λ found. found.items ≡ map fresh ports.now) }
+/// Returns a port with its values at start.
+fn fresh(p: &RstpPort) -> Moving
+    ensures { result ≡ moving (λ q. q) (fresh p.now) }
 {
-    Ok(ports.iter().map(|p| Port::fresh(p)).collect(alloc)?)
+    let port = Port::fresh(p);
+    Moving {
+        was: port,
+        now: port,
+    }
+}
+
+/// Returns the ports with their values at start.
+fn fresh_ports(alloc: Global, ports: &[RstpPort]) -> Result<Vec<Moving>, Memory>
+    ensures { IfOk result (λ found. found.items ≡ map (λ p. moving (λ q. q) (fresh p)) ports.now) }
+{
+    Ok(ports.iter().map(|p| fresh(p)).collect(alloc)?)
 }
 
 /// Returns the role of each port.
-pub(crate) fn roles_of(alloc: Global, ports: &[Port]) -> Result<Vec<(u8, Role)>, Memory>
-    ensures { IfOk result (λ found. found.items ≡ roles_of ports.now) }
+fn roles_of(alloc: Global, ports: &[Moving]) -> Result<Vec<(u8, Role)>, Memory>
+    ensures { IfOk result (λ found. found.items ≡ roles_of (nows ports.now)) }
 {
-    Ok(ports.iter().map(|p| (p.number, p.role)).collect(alloc)?)
+    let mut roles = vec![in alloc; (0, Role::Disabled); ports.len()]?;
+    tell_roles(ports, &mut roles);
+    Ok(roles)
 }
 
 /// Returns the state of each port.
-pub(crate) fn states_of(alloc: Global, ports: &[Port]) -> Result<Vec<(u8, PortState)>, Memory>
-    ensures { IfOk result (λ found. found.items ≡ states_of ports.now) }
+fn states_of(alloc: Global, ports: &[Moving]) -> Result<Vec<(u8, PortState)>, Memory>
+    ensures { IfOk result (λ found. found.items ≡ states_of (nows ports.now)) }
 {
-    Ok(ports.iter().map(|p| (p.number, p.state)).collect(alloc)?)
+    let mut states = vec![in alloc; (0, PortState::Discarding); ports.len()]?;
+    tell_states(ports, &mut states);
+    Ok(states)
 }
 
 impl Rstp {

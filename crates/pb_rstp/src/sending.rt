@@ -2,17 +2,17 @@
 
 ghost use Rattle.std.specs.Prelude.{◌≡◌, ◌++◌, IfOk, OnOk};
 ghost use Rattle.pb_lan.specs.Rules.{from_to, is_same};
-ghost use Rattle.pb_rstp.specs.Settling.{nows, moved_on, is_sending, after_sending, with_sent, state_changes};
-ghost use Rattle.pb_rstp.specs.Settling.{flushed, sent, change_of, settled, is_updated, with_update, with_updates};
-ghost use Rattle.pb_rstp.specs.Settling.{each};
+ghost use Rattle.pb_rstp.specs.Settling.{befores, nows, each, moved_on, is_sending, after_sending, with_sent};
+ghost use Rattle.pb_rstp.specs.Settling.{state_changes, sent, change_of, settled, is_updated, offer_by, with_update};
+ghost use Rattle.pb_rstp.specs.Settling.{with_updates};
 
 use crate::change::Change;
-use crate::message::{Offer, is_same_offer, message_of, offer_by};
+use crate::message::{Offer, is_same_offer, message, offer_by};
 use crate::moving::{Heard, Moving};
 use crate::port::Port;
-use crate::proposal::with_proposal;
-use crate::settle::{befores, in_line, nows};
-use crate::topology::{is_flushed, with_topology};
+use crate::proposal::answer_proposal;
+use crate::settle::bring_in_line;
+use crate::topology::{flushed, report};
 use pb_bpdu::Bpdu;
 use pb_frame::{Memory, Seq};
 use pb_lan::PortState;
@@ -29,26 +29,23 @@ fn is_sending(p: &Port) -> bool
     p.port_enabled && p.new_info && p.tx_count < HOLD_COUNT
 }
 
-/// Returns the port with `new_info` cleared and `tx_count` one higher, if it sends a BPDU.
-fn after_sending(p: &Moving) -> Moving
-    ensures { result ≡ moved_on after_sending p.entry.now }
+/// Clears `new_info` and counts one more in `tx_count`, if the port sends a BPDU.
+fn send_at(p: &mut Moving)
+    ensures { p.exit.now ≡ moved_on after_sending p.entry.now }
 {
     if is_sending(&p.now) {
-        p.becomes(Port {
-            new_info: false,
-            tx_count: p.now.tx_count + 1,
-            ..p.now
-        })
-    } else {
-        *p
+        p.now.new_info = false;
+        p.now.tx_count += 1;
     }
 }
 
 /// Sends the BPDUs: step 8 of 8.
-pub(crate) fn with_sent(alloc: Global, ports: &[Moving]) -> Result<Vec<Moving>, Memory>
-    ensures { IfOk result (λ moved. moved.items ≡ with_sent ports.now) }
+pub(crate) fn send(ports: &mut [Moving])
+    ensures { ports.new ≡ with_sent ports.old }
 {
-    Ok(ports.iter().map(|p| after_sending(p)).collect(alloc)?)
+    for p in ports.iter_mut() {
+        send_at(p);
+    }
 }
 
 /// Returns whether the port stays Designated and offers another vector or other times than before the call.
@@ -60,69 +57,53 @@ fn is_updated(id: u64, before: &Offer, after: &Offer, p: &Moving) -> bool
         && !is_same_offer(id, before, &p.was, after, &p.now)
 }
 
-/// Returns the port with `new_info` set, if its offer is another.
-fn with_update(id: u64, before: &Offer, after: &Offer, p: &Moving) -> Moving
-    ensures { result ≡ moved_on (with_update id before.now after.now) p.entry.now }
+/// Sets `new_info`, if the port's offer is another.
+fn update_at(id: u64, before: &Offer, after: &Offer, p: &mut Moving)
+    ensures { p.exit.now ≡ moved_on (with_update id before.now after.now) p.entry.now }
 {
     if is_updated(id, before, after, p) {
-        p.becomes(Port {
-            new_info: true,
-            ..p.now
-        })
-    } else {
-        *p
+        p.now.new_info = true;
     }
 }
 
-fn with_all_updates(
-    alloc: Global,
-    id: u64,
-    before: &Offer,
-    after: &Offer,
-    ports: &[Moving],
-) -> Result<Vec<Moving>, Memory>
-    ensures { IfOk result (λ moved. moved.items ≡ each (with_update id before.now after.now) ports.now) }
+/// Sets `new_info` at each port whose offer is another.
+fn update_all(id: u64, before: &Offer, after: &Offer, ports: &mut [Moving])
+    ensures { ports.new ≡ each (with_update id before.now after.now) ports.old }
 {
-    Ok(
-        ports
-            .iter()
-            .map(|p| with_update(id, before, after, p))
-            .collect(alloc)?,
-    )
+    for p in ports.iter_mut() {
+        update_at(id, before, after, p);
+    }
 }
 
 /// Has each port of a prompt bridge send that stays Designated and offers another vector or other times than before the
-/// call: step 7 of 8 (IEEE 802.1D-2004 clauses 17.21.25, updtRolesTree, and 17.27).
-fn with_updates(
-    alloc: Global,
-    prompt: bool,
-    id: u64,
-    ports: Vec<Moving>,
-) -> Result<Vec<Moving>, Memory>
-    ensures { IfOk result (λ moved. moved.items ≡ with_updates prompt id ports.items) }
+/// call: step 7 of 8 (IEEE 802.1D-2004 clauses 17.21.25, updtRolesTree, and 17.27). Takes what was offered before the
+/// call.
+fn update(prompt: bool, id: u64, before: &Offer, ports: &mut [Moving])
+    requires { before.now ≡ offer_by id (befores ports.old) }
+    ensures { ports.new ≡ with_updates prompt id ports.old }
 {
     if !prompt {
-        return Ok(ports);
+        return;
     }
-    let before = offer_by(id, &befores(alloc, &ports)?);
-    let after = offer_by(id, &nows(alloc, &ports)?);
-    Ok(with_all_updates(alloc, id, &before, &after, &ports)?)
+    let after = offer_by(id, ports);
+    update_all(id, before, &after, ports);
 }
 
-/// Returns the ports after steps 1 to 7, before BPDUs are sent.
-pub(crate) fn settled(
-    alloc: Global,
+/// Runs steps 1 to 7, before BPDUs are sent, given what was offered before the call.
+pub(crate) fn settle(
     prompt: bool,
     id: u64,
     heard: Option<Heard>,
-    ports: &[Moving],
-) -> Result<Vec<Moving>, Memory>
-    ensures { IfOk result (λ moved. moved.items ≡ settled prompt id heard ports.now) }
+    before: &Offer,
+    ports: &mut [Moving],
+)
+    requires { before.now ≡ offer_by id (befores ports.old) }
+    ensures { ports.new ≡ settled prompt id heard ports.old }
 {
-    let in_line = in_line(alloc, id, ports)?;
-    let with_proposal = with_proposal(alloc, heard, in_line)?;
-    let with_topology = with_topology(alloc, heard, &with_proposal)?;
-    Ok(with_updates(alloc, prompt, id, with_topology)?)
+    bring_in_line(id, &before.root, ports);
+    answer_proposal(heard, ports);
+    report(heard, ports);
+    update(prompt, id, before, ports);
 }
 
 /// Returns whether the states are the same.
@@ -154,27 +135,15 @@ fn state_changes(alloc: Global, ports: &[Moving]) -> Result<Vec<(u8, PortState)>
     Ok(changes)
 }
 
-/// Returns the ports whose stations are to be forgotten.
-fn flushed(alloc: Global, heard: Option<Heard>, ports: &[Moving]) -> Result<Vec<u8>, Memory>
-    ensures { IfOk result (λ numbers. numbers.items ≡ flushed heard ports.now) }
-{
-    let mut numbers = Vec::new(alloc);
-    for p in ports {
-        if is_flushed(heard, ports, p) {
-            numbers.push(p.now.number)?;
-        }
-    }
-    Ok(numbers)
-}
-
 /// Returns the BPDUs that are sent, each with its port.
-fn sent(alloc: Global, id: u64, ports: &[Port]) -> Result<Vec<(u8, Bpdu)>, Memory>
-    ensures { IfOk result (λ bpdus. bpdus.items ≡ sent id ports.now) }
+fn sent(alloc: Global, id: u64, ports: &[Moving]) -> Result<Vec<(u8, Bpdu)>, Memory>
+    ensures { IfOk result (λ bpdus. bpdus.items ≡ sent id (nows ports.now)) }
 {
+    let offer = offer_by(id, ports);
     let mut bpdus = Vec::new(alloc);
     for p in ports {
-        if is_sending(p) {
-            bpdus.push((p.number, message_of(id, ports, p)))?;
+        if is_sending(&p.now) {
+            bpdus.push((p.now.number, message(id, &offer, &p.now)))?;
         }
     }
     Ok(bpdus)
@@ -191,7 +160,7 @@ pub(crate) fn change_of(
 {
     let states = state_changes(alloc, ports)?;
     let flush = flushed(alloc, heard, ports)?;
-    let send = sent(alloc, id, &nows(alloc, ports)?)?;
+    let send = sent(alloc, id, ports)?;
     Ok(Change {
         states: Seq::from_vec(states),
         flush: Seq::from_vec(flush),

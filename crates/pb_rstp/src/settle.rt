@@ -1,206 +1,148 @@
-//! What follows each call: roles, states, topology changes and BPDUs are brought into line.
+//! What follows each call: roles, agreements, stored information and states are brought into line, in place.
 
-ghost use Rattle.std.specs.Prelude.{◌≡◌, IfOk};
+ghost use Rattle.std.specs.Prelude.{◌≡◌, if◌then◌else◌};
+ghost use Rattle.pb_rstp.specs.Ports.{is_designated};
 ghost use Rattle.pb_rstp.specs.Roles.{root_vector};
 ghost use Rattle.pb_rstp.specs.Vectors.{is_same_vector};
-ghost use Rattle.pb_rstp.specs.Settling.{befores, nows, each, moved_on, with_role, with_roles, without_agreement};
-ghost use Rattle.pb_rstp.specs.Settling.{with_agreements, without_info, with_infos, held_back, forwarding_if_agreed};
-ghost use Rattle.pb_rstp.specs.Settling.{designated_state, state_by, with_state, with_states, in_line};
+ghost use Rattle.pb_rstp.specs.Settling.{befores, each, moved_on, with_role, without_agreement, without_info};
+ghost use Rattle.pb_rstp.specs.Settling.{with_infos, held_back, forwarding_if_agreed, designated_state, state_by};
+ghost use Rattle.pb_rstp.specs.Settling.{with_state, with_states, in_line};
 
 use crate::moving::Moving;
 use crate::port::{Port, fwd_delay_of};
 use crate::role::Role;
 use crate::roles::{role_by, root_vector};
 use crate::vector::Vector;
-use pb_frame::Memory;
 use pb_lan::PortState;
-use std::alloc::Global;
 
-impl Moving {
-    /// Returns the port with this value at a later point of the call.
-    pub(crate) fn becomes(&self, now: Port) -> Moving
-        ensures { result ≡ record self.entry.now { now = now } }
-    {
-        Moving { was: self.was, now }
+/// Gives the port its role.
+fn give_role(id: u64, root: &Vector, p: &mut Moving)
+    ensures { p.exit.now ≡ moved_on (with_role id root.now) p.entry.now }
+{
+    p.now.role = role_by(id, root, &p.now);
+}
+
+/// Gives each port its role under this root vector: step 1 of 8 (IEEE 802.1D-2004 clause 17.21.25, updtRolesTree).
+fn give_roles(id: u64, root: &Vector, ports: &mut [Moving])
+    ensures { ports.new ≡ each (with_role id root.now) ports.old }
+{
+    for p in ports.iter_mut() {
+        give_role(id, root, p);
     }
 }
 
-/// Returns the ports as they were before the call.
-pub(crate) fn befores(alloc: Global, ports: &[Moving]) -> Result<Vec<Port>, Memory>
-    ensures { IfOk result (λ found. found.items ≡ befores ports.now) }
+/// Clears `agreed` and `agree`.
+fn clear_agreement(p: &mut Moving)
+    ensures { p.exit.now ≡ moved_on without_agreement p.entry.now }
 {
-    Ok(ports.iter().map(|p| p.was).collect(alloc)?)
+    p.now.agreed = false;
+    p.now.agree = false;
 }
 
-/// Returns the ports as they are now.
-pub(crate) fn nows(alloc: Global, ports: &[Moving]) -> Result<Vec<Port>, Memory>
-    ensures { IfOk result (λ found. found.items ≡ nows ports.now) }
+/// Clears all agreements if the root vector is not the one before the call: step 2 of 8 (IEEE 802.1D-2004 clause
+/// 17.27).
+fn clear_agreements(before: &Vector, root: &Vector, ports: &mut [Moving])
+    ensures { ports.new
+        ≡ (if is_same_vector before.now root.now then ports.old else each without_agreement ports.old) }
 {
-    Ok(ports.iter().map(|p| p.now).collect(alloc)?)
-}
-
-/// Returns the port with its role.
-fn with_role(id: u64, root: &Vector, p: &Moving) -> Moving
-    ensures { result ≡ moved_on (with_role id root.now) p.entry.now }
-{
-    p.becomes(Port {
-        role: role_by(id, root, &p.now),
-        ..p.now
-    })
-}
-
-/// Gives each port its role: step 1 of 8 (IEEE 802.1D-2004 clause 17.21.25, updtRolesTree).
-fn with_roles(alloc: Global, id: u64, ports: &[Moving]) -> Result<Vec<Moving>, Memory>
-    ensures { IfOk result (λ moved. moved.items ≡ with_roles id ports.now) }
-{
-    let root = root_vector(id, &nows(alloc, ports)?);
-    Ok(
-        ports
-            .iter()
-            .map(|p| with_role(id, &root, p))
-            .collect(alloc)?,
-    )
-}
-
-/// Returns the port with `agreed` and `agree` cleared.
-fn without_agreement(p: &Moving) -> Moving
-    ensures { result ≡ moved_on without_agreement p.entry.now }
-{
-    p.becomes(Port {
-        agreed: false,
-        agree: false,
-        ..p.now
-    })
-}
-
-/// Returns whether the root vector is the same as before the call.
-fn has_same_root(alloc: Global, id: u64, ports: &[Moving]) -> Result<bool, Memory>
-    ensures { IfOk result (λ same. same ≡ is_same_vector (root_vector id (befores ports.now))
-        (root_vector id (nows ports.now))) }
-{
-    let before = root_vector(id, &befores(alloc, ports)?);
-    let now = root_vector(id, &nows(alloc, ports)?);
-    Ok(before.is_same(&now))
-}
-
-fn without_agreements(alloc: Global, ports: &[Moving]) -> Result<Vec<Moving>, Memory>
-    ensures { IfOk result (λ moved. moved.items ≡ each without_agreement ports.now) }
-{
-    Ok(ports.iter().map(|p| without_agreement(p)).collect(alloc)?)
-}
-
-/// Clears all agreements if the root vector changed: step 2 of 8 (IEEE 802.1D-2004 clause 17.27).
-fn with_agreements(alloc: Global, id: u64, ports: Vec<Moving>) -> Result<Vec<Moving>, Memory>
-    ensures { IfOk result (λ moved. moved.items ≡ with_agreements id ports.items) }
-{
-    let is_same = has_same_root(alloc, id, &ports)?;
-    if is_same {
-        return Ok(ports);
+    if before.is_same(root) {
+        return;
     }
-    Ok(without_agreements(alloc, &ports)?)
+    for p in ports.iter_mut() {
+        clear_agreement(p);
+    }
 }
 
-/// Returns a Designated port that stores nothing, with `new_info` set if it stored something.
-fn without_info(p: &Moving) -> Moving
-    ensures { result ≡ moved_on without_info p.entry.now }
+/// Clears what the port stores and sets `new_info`, if it is Designated and stores something.
+fn clear_info(p: &mut Moving)
+    ensures { p.exit.now ≡ moved_on without_info p.entry.now }
 {
     if p.now.role.is_designated() && p.now.info.is_some() {
-        p.becomes(Port {
-            info: None,
-            new_info: true,
-            ..p.now
-        })
-    } else {
-        *p
+        p.now.info = None;
+        p.now.new_info = true;
     }
 }
 
-/// Drops the information that Designated ports store: step 3 of 8 (IEEE 802.1D-2004 clause 17.27).
-fn with_infos(alloc: Global, ports: &[Moving]) -> Result<Vec<Moving>, Memory>
-    ensures { IfOk result (λ moved. moved.items ≡ with_infos ports.now) }
+/// Clears the information that Designated ports store: step 3 of 8 (IEEE 802.1D-2004 clause 17.27).
+fn clear_infos(ports: &mut [Moving])
+    ensures { ports.new ≡ with_infos ports.old }
 {
-    Ok(ports.iter().map(|p| without_info(p)).collect(alloc)?)
-}
-
-/// Returns the port Discarding, with `fd_while` started and `new_info` set.
-pub(crate) fn held_back(fwd_delay: u16, p: &Port) -> Port
-    ensures { result ≡ held_back fwd_delay p.now }
-{
-    Port {
-        state: PortState::Discarding,
-        fd_while: fwd_delay,
-        new_info: true,
-        ..*p
+    for p in ports.iter_mut() {
+        clear_info(p);
     }
 }
 
-/// Returns a Designated port, Forwarding if the neighbour has agreed.
-fn forwarding_if_agreed(p: &Port) -> Port
-    ensures { result ≡ forwarding_if_agreed p.now }
+/// Makes the port Discarding, starts `fd_while` and sets `new_info`.
+pub(crate) fn hold_back(fwd_delay: u16, p: &mut Port)
+    ensures { p.new ≡ held_back fwd_delay p.old }
+{
+    p.state = PortState::Discarding;
+    p.fd_while = fwd_delay;
+    p.new_info = true;
+}
+
+/// Holds back a Designated port that had another role before the call.
+fn hold_back_new(fwd_delay: u16, was: &Port, p: &mut Port)
+    ensures { p.new ≡ (if is_designated was.now.role then p.old else held_back fwd_delay p.old) }
+{
+    if !was.role.is_designated() {
+        hold_back(fwd_delay, p);
+    }
+}
+
+/// Makes a Designated port Forwarding, if the neighbour has agreed.
+fn forward_if_agreed(p: &mut Port)
+    ensures { p.new ≡ forwarding_if_agreed p.old }
 {
     if p.agreed {
-        Port {
-            state: PortState::Forwarding,
-            ..*p
-        }
-    } else {
-        *p
+        p.state = PortState::Forwarding;
     }
 }
 
-/// Returns a Designated port in its state. A port that was not Designated before the call is held back first.
-fn designated_state(fwd_delay: u16, was: &Port, now: &Port) -> Port
-    ensures { result ≡ designated_state fwd_delay was.now now.now }
+/// Puts a Designated port into its state.
+fn enter_designated_state(fwd_delay: u16, was: &Port, p: &mut Port)
+    ensures { p.new ≡ designated_state fwd_delay was.now p.old }
 {
-    if was.role.is_designated() {
-        forwarding_if_agreed(now)
-    } else {
-        forwarding_if_agreed(&held_back(fwd_delay, now))
-    }
+    hold_back_new(fwd_delay, was, p);
+    forward_if_agreed(p);
 }
 
-/// Returns the port in the state of its role.
-fn state_by(fwd_delay: u16, role: Role, was: &Port, now: &Port) -> Port
-    ensures { result ≡ state_by fwd_delay role was.now now.now }
+/// Puts the port into the state of a role.
+fn enter_state(fwd_delay: u16, role: Role, was: &Port, p: &mut Port)
+    ensures { p.new ≡ state_by fwd_delay role was.now p.old }
 {
     match role {
-        Role::Root => Port {
-            state: PortState::Forwarding,
-            ..*now
-        },
-        Role::Designated => designated_state(fwd_delay, was, now),
-        Role::Disabled | Role::Alternate | Role::Backup => Port {
-            state: PortState::Discarding,
-            ..*now
-        },
+        Role::Root => p.state = PortState::Forwarding,
+        Role::Designated => enter_designated_state(fwd_delay, was, p),
+        Role::Disabled | Role::Alternate | Role::Backup => p.state = PortState::Discarding,
     }
 }
 
-fn with_state(fwd_delay: u16, p: &Moving) -> Moving
-    ensures { result ≡ moved_on (with_state fwd_delay) p.entry.now }
+/// Puts the port into the state of its role.
+fn give_state(fwd_delay: u16, p: &mut Moving)
+    ensures { p.exit.now ≡ moved_on (with_state fwd_delay) p.entry.now }
 {
-    p.becomes(state_by(fwd_delay, p.now.role, &p.was, &p.now))
+    enter_state(fwd_delay, p.now.role, &p.was, &mut p.now);
 }
 
-/// Gives each port the state of its role: step 4 of 8 (IEEE 802.1D-2004 clause 17.29).
-fn with_states(alloc: Global, ports: &[Moving]) -> Result<Vec<Moving>, Memory>
-    ensures { IfOk result (λ moved. moved.items ≡ with_states ports.now) }
+/// Puts each port into the state of its role: step 4 of 8 (IEEE 802.1D-2004 clause 17.29).
+fn give_states(ports: &mut [Moving])
+    ensures { ports.new ≡ with_states ports.old }
 {
-    let fwd_delay = fwd_delay_of(&nows(alloc, ports)?);
-    Ok(
-        ports
-            .iter()
-            .map(|p| with_state(fwd_delay, p))
-            .collect(alloc)?,
-    )
+    let fwd_delay = fwd_delay_of(ports);
+    for p in ports.iter_mut() {
+        give_state(fwd_delay, p);
+    }
 }
 
-/// Returns the ports after steps 1 to 4.
-pub(crate) fn in_line(alloc: Global, id: u64, ports: &[Moving]) -> Result<Vec<Moving>, Memory>
-    ensures { IfOk result (λ moved. moved.items ≡ in_line id ports.now) }
+/// Runs steps 1 to 4, given the root vector before the call.
+pub(crate) fn bring_in_line(id: u64, before: &Vector, ports: &mut [Moving])
+    requires { before.now ≡ root_vector id (befores ports.old) }
+    ensures { ports.new ≡ in_line id ports.old }
 {
-    let with_roles = with_roles(alloc, id, ports)?;
-    let with_agreements = with_agreements(alloc, id, with_roles)?;
-    let with_infos = with_infos(alloc, &with_agreements)?;
-    Ok(with_states(alloc, &with_infos)?)
+    let root = root_vector(id, ports);
+    give_roles(id, &root, ports);
+    clear_agreements(before, &root, ports);
+    clear_infos(ports);
+    give_states(ports);
 }

@@ -1,10 +1,9 @@
 //! Topology changes are reported, and the stations of other ports are forgotten.
 
-ghost use Rattle.std.specs.Prelude.{◌≡◌, ◌==◌, ◌&&◌, not, IfOk, option_to_list};
+ghost use Rattle.std.specs.Prelude.{◌≡◌, ◌==◌, ◌&&◌, ◌||◌, not, if◌then◌else◌, true, IfOk, option_to_list};
 ghost use Rattle.std.specs.List.{list_any};
 ghost use Rattle.pb_rstp.specs.Ports.{is_root_or_designated};
-ghost use Rattle.pb_rstp.specs.Settling.{moved_on, has_opened, has_closed, changed_at, is_news_elsewhere, is_flushed};
-ghost use Rattle.pb_rstp.specs.Settling.{is_telling, with_tc_while, with_topology};
+ghost use Rattle.pb_rstp.specs.Settling.{moved_on, has_opened, has_closed, changed_at, with_topology, flushed};
 
 use crate::moving::{Heard, Moving};
 use crate::port::{Port, is_discarding, is_forwarding};
@@ -73,61 +72,72 @@ fn changed_at(heard: Option<Heard>, ports: &[Moving]) -> Option<u8>
     }
 }
 
-/// Returns whether another port than this received a topology change.
-fn is_changed_elsewhere(heard: Option<Heard>, ports: &[Moving], number: u8) -> bool
-    ensures { result ≡ list_any (λ other. not (other == number)) (changed_at heard ports.now) }
+/// Returns whether the port that received a topology change, if there is one, is another than this.
+fn is_elsewhere(changed: Option<u8>, number: u8) -> bool
+    ensures { result ≡ list_any (λ other. not (other == number)) (option_to_list changed) }
 {
-    match changed_at(heard, ports) {
+    match changed {
         None => false,
         Some(other) => other != number,
     }
 }
 
-/// Returns whether the stations of the port are to be forgotten (IEEE 802.1D-2004 clause 17.21.18, setTcPropTree).
-pub(crate) fn is_flushed(heard: Option<Heard>, ports: &[Moving], p: &Moving) -> bool
-    ensures { result ≡ is_flushed heard ports.now p.entry.now }
+/// Returns whether the stations of the port are to be forgotten, given the port that received a topology change (IEEE
+/// 802.1D-2004 clause 17.21.18, setTcPropTree).
+fn is_flushed(changed: Option<u8>, ports: &[Moving], p: &Moving) -> bool
+    ensures { result ≡ ((list_any (λ q. has_opened q && not (q.now.number == p.entry.now.now.number)) ports.now
+        || list_any (λ other. not (other == p.entry.now.now.number)) (option_to_list changed))
+        || has_closed p.entry.now) }
 {
-    has_other_opened(p.now.number, ports)
-        || is_changed_elsewhere(heard, ports, p.now.number)
-        || has_closed(p)
+    has_other_opened(p.now.number, ports) || is_elsewhere(changed, p.now.number) || has_closed(p)
+}
+
+/// Returns the ports whose stations are to be forgotten.
+pub(crate) fn flushed(
+    alloc: Global,
+    heard: Option<Heard>,
+    ports: &[Moving],
+) -> Result<Vec<u8>, Memory>
+    ensures { IfOk result (λ numbers. numbers.items ≡ flushed heard ports.now) }
+{
+    let changed = changed_at(heard, ports);
+    let mut numbers = Vec::new(alloc);
+    for p in ports {
+        if is_flushed(changed, ports, p) {
+            numbers.push(p.now.number)?;
+        }
+    }
+    Ok(numbers)
 }
 
 /// Returns whether the port starts to report a topology change: a port of the bridge became Forwarding, itself too, or
 /// another port received one.
-fn is_telling(heard: Option<Heard>, ports: &[Moving], p: &Port) -> bool
-    ensures { result ≡ is_telling heard ports.now p.now }
+fn is_telling(is_any_opened: bool, changed: Option<u8>, p: &Port) -> bool
+    ensures { result ≡ (is_root_or_designated p.now.role
+        && (is_any_opened || list_any (λ number. not (number == p.now.number)) (option_to_list changed))) }
 {
-    p.role.is_root_or_designated()
-        && (has_any_opened(ports) || is_changed_elsewhere(heard, ports, p.number))
+    p.role.is_root_or_designated() && (is_any_opened || is_elsewhere(changed, p.number))
 }
 
-/// Returns the port with `tc_while` started and `new_info` set, if it starts to report a topology change.
-fn with_tc_while(heard: Option<Heard>, ports: &[Moving], p: &Moving) -> Moving
-    ensures { result ≡ moved_on (with_tc_while heard ports.now) p.entry.now }
+/// Starts `tc_while` and sets `new_info`, if the port starts to report a topology change.
+fn report_at(is_any_opened: bool, changed: Option<u8>, p: &mut Moving)
+    ensures { p.exit.now ≡ moved_on (λ was now. if is_root_or_designated now.role
+        && (is_any_opened || list_any (λ number. not (number == now.number)) (option_to_list changed))
+        then record now { tc_while = 3; new_info = true } else now) p.entry.now }
 {
-    if is_telling(heard, ports, &p.now) {
-        p.becomes(Port {
-            tc_while: 3,
-            new_info: true,
-            ..p.now
-        })
-    } else {
-        *p
+    if is_telling(is_any_opened, changed, &p.now) {
+        p.now.tc_while = 3;
+        p.now.new_info = true;
     }
 }
 
 /// Starts the reports of topology changes: step 6 of 8 (IEEE 802.1D-2004 clause 17.31).
-pub(crate) fn with_topology(
-    alloc: Global,
-    heard: Option<Heard>,
-    ports: &[Moving],
-) -> Result<Vec<Moving>, Memory>
-    ensures { IfOk result (λ moved. moved.items ≡ with_topology heard ports.now) }
+pub(crate) fn report(heard: Option<Heard>, ports: &mut [Moving])
+    ensures { ports.new ≡ with_topology heard ports.old }
 {
-    Ok(
-        ports
-            .iter()
-            .map(|p| with_tc_while(heard, ports, p))
-            .collect(alloc)?,
-    )
+    let is_any_opened = has_any_opened(ports);
+    let changed = changed_at(heard, ports);
+    for p in ports.iter_mut() {
+        report_at(is_any_opened, changed, p);
+    }
 }

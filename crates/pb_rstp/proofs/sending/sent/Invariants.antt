@@ -1,10 +1,8 @@
-use Rattle.std.proofs.Common.{◌≡◌, ◌++◌, map, drop}
-use Rattle.std.specs.List.{filter}
-use Rattle.pb_rstp.specs.Settling.{is_sending, sent}
-use Rattle.pb_rstp.specs.Messages.{message_of}
+use Rattle.std.proofs.Common.{◌≡◌, ◌++◌, drop}
+use Rattle.pb_rstp.specs.Settling.{nows}
+use Rattle.pb_rstp.proofs.SendingLaws.{sent_by}
 use Rattle.pb_rstp.proofs.sending.sent.Given as goal
 
 abbrev pub invariant-loop-p : goal.invariant-loop-p
 invariant-loop-p l =
-    l.bpdus.items ++ map (λ p. (p.number, message_of l.id l.ports p)) (filter is_sending (drop l.p-index l.ports))
-    ≡ sent l.id l.ports
+    l.bpdus.items ++ sent_by l.id l.offer (nows (drop l.p-index l.ports)) ≡ sent_by l.id l.offer (nows l.ports)
