@@ -24,6 +24,10 @@ pub(crate) enum AnyPort<M, C, S, T, U> {
 impl<M: Port, C: Port, S: Port, T: Port, U: Port> Port for AnyPort<M, C, S, T, U> {
     ghost script = { of_any M.script C.script S.script T.script U.script };
 
+    ghost unread = { of_any M.unread C.unread S.unread T.unread U.unread };
+
+    ghost output = { of_any M.output C.output S.output T.output U.output };
+
     ghost given = { of_any M.given C.given S.given T.given U.given };
 
     ghost tally = { of_any M.tally C.tally S.tally T.tally U.tally };

@@ -6,7 +6,7 @@ use crate::pacing::GateClock;
 use crate::telling::name_at;
 use crate::watch::Watches;
 use pb_lan::{CustomerPlan, Place};
-use pb_run::{Bells, Dropped, Gate, Go, PortView, StationView, Wish};
+use pb_run::{Bells, Dropped, Gate, Go, Past, PortView, StationView, Wish};
 use pb_run_control::{Opening, PeerChange, RunProgress, SocketFailure};
 use std::alloc::Global;
 use std::net::{Net, TcpListener, TcpStream};
@@ -87,6 +87,8 @@ impl<R, G: RunProgress> Gate for Attended<'_, R, G>
 where
     R: Net<Listener = TcpListener, Stream = TcpStream> + Clock + Sync,
 {
+    ghost gives = { λ a. G.gives a.gate.now };
+
     fn pass(&self, place: Place, turn: u64) -> Go {
         self.set_clock(place);
         if turn % LOOK == 0 && place == Place::Bridge(1) {
@@ -119,8 +121,8 @@ where
         self.gate.pass_when_idle(place, turn)
     }
 
-    fn wish(&self, place: Place, now: u32) -> Option<Wish> {
-        self.gate.wish(place, now)
+    fn wish(&self, place: Place, now: u32, past: Past<Wish>) -> Option<Wish> {
+        self.gate.wish(place, now, past)
     }
 
     fn lets_sleep(&self, place: Place) -> bool {

@@ -272,7 +272,8 @@ where
 /// made are removed. `errors` names the inputs that are pcapng. After the report it has the losses ([`lost_of`]), what
 /// ports for datagrams dropped, the other dropped frames ([`dropped_of`]), the frames in transit ([`transit_of`]) and
 /// those that taps did not write. A strict run that had losses, did not end drained, or could not write a file of a
-/// port has the status 4 in place of 0. A run with a port for datagrams never ends drained, since frames may always come.
+/// port has the status 4 in place of 0. A run with a port for datagrams never ends drained, since frames may always
+/// come.
 ///
 /// # Errors
 ///

@@ -21,6 +21,10 @@ pub(crate) struct Watched<P: Port> {
 impl<P: Port> Port for Watched<P> {
     ghost script = { λ w. P.script w.port };
 
+    ghost unread = { λ w. P.unread w.port };
+
+    ghost output = { λ w. P.output w.port };
+
     ghost given = { λ w. P.given w.port };
 
     ghost tally = { λ w. P.tally w.port };

@@ -54,9 +54,9 @@ impl Tunnel {
     ///
     /// # Errors
     ///
-    /// `OtherSender` if the peer does not send from that address. Otherwise, of a VXLAN datagram, `ShortHeader`, `UnsetFlag` or
-    /// `OtherNetwork`, the first that applies (RFC 7348 section 5), and of a plain one `ShortFrame` if it has fewer
-    /// than 14 octets.
+    /// `OtherSender` if the peer does not send from that address. Otherwise, of a VXLAN datagram, `ShortHeader`,
+    /// `UnsetFlag` or `OtherNetwork`, the first that applies (RFC 7348 section 5), and of a plain one `ShortFrame` if
+    /// it has fewer than 14 octets.
     pub fn accept(&self, sender: SocketAddr, datagram: &[u8]) -> Result<usize, Refusal>
         ensures { MatchResult result
             (λ start. (start ≤ length datagram.now) × IsOfPeer self.now sender

@@ -1,6 +1,7 @@
 -- The frames that begin in some octets add up, for `count_begun`.
 use Rattle.std.proofs.Common.{◌≡◌, ℕ, ◌+◌, ◌<◌, ◌≤◌, ◌==◌, eqb, ne_eqb, true, false, List, [], ◌∷◌, length}
-use Rattle.std.proofs.Common.{take, drop, refl, sym, ap, ◌∙◌, subst, arith, append-nil, length-take, length-drop, Option}
+use Rattle.std.proofs.Common.{take, drop, refl, sym, ap, ◌∙◌, subst, arith, append-nil, length-take, length-drop}
+use Rattle.std.proofs.Common.{Option}
 use Rattle.std.proofs.Common.{Some, None}
 use Rattle.std.proofs.lemmas.List.{take-append-drop}
 use Rattle.pb_port.specs.declared.fault.PortFault.{PortFault}
@@ -13,7 +14,7 @@ use Rattle.pb_port.specs.Beginning.{Begins}
 use Rattle.pb_port.specs.Ports.{Frames}
 use Rattle.pb_port.specs.Streams.{Shows, fault_at, unfinished}
 use Rattle.pb_port.specs.Whole.{IsStream}
-use Rattle.pb_port.proofs.StreamLemmas.{some_octets}
+use Rattle.pb_port.specs.Fronts.{some_octets}
 
 -- the reading of all octets has n frames more than that of the rest
 abbrev pub Counts : LengthField → ℕ → List ℕ → List ℕ → Type 0

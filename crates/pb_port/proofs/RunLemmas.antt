@@ -1,43 +1,17 @@
 -- The results of successive polls are the reading of the input, for `polls_spell_the_reading`.
-use Rattle.std.proofs.Common.{◌≡◌, ℕ, ◌+◌, List, [], ◌∷◌, ◌++◌, refl, sym, ap, ◌∙◌}
-use Rattle.std.proofs.Common.{subst, append_assoc, arith, Option}
+use Rattle.std.proofs.Common.{◌≡◌, ℕ, ◌+◌, List, [], ◌∷◌, refl, sym, ap, ◌∙◌}
+use Rattle.std.proofs.Common.{subst, Option}
 use Rattle.pb_port.specs.declared.fault.PortFault.{PortFault}
 use Rattle.pb_port.specs.declared.fault.PortFault.TheVariants.{Memory}
 use Rattle.pb_port.specs.declared.stream_position.StreamPosition.{StreamPosition}
 use Rattle.pb_port.specs.declared.answers.Polled.{Polled}
 use Rattle.pb_port.specs.declared.answers.Polled.TheVariants.{Frame, Nothing, End, Fault}
 use Rattle.pb_port.specs.Ports.{Frames}
-use Rattle.pb_port.specs.Streams.{Passes}
 use Rattle.pb_port.specs.Reading.{Reached, Given, held_sum}
 use Rattle.pb_port.specs.Whole.{Ends, IsStream}
 use Rattle.pb_port.specs.Runs.{IsRun, frames_in}
-use Rattle.pb_port.proofs.ReadingLemmas.{Passes-append, held_sum-twice}
-
--- parts without frames before a reading
-stream_behind_parts : (p q : StreamPosition) (m n : ℕ) (front ys : List ℕ) (fs : Frames) (fault : Option PortFault)
-    → Passes p front q m → IsStream q ys fs n fault
-    → IsStream p (front ++ ys) fs (m + n) fault
-stream_behind_parts p q m n front ys [] fault pass (r, front', rest, pass', e, ends) = (
-  r,
-  front ++ front',
-  rest,
-  Passes-append p q r m n front front' pass pass',
-  ap (λ z. front ++ z) e ∙ sym (append_assoc front front' rest),
-  ends,
-)
-stream_behind_parts p q m n front ys (f ∷ fs) fault pass (r, front', part, rest, k, more, pass', is, e, left, sum) = (
-  r,
-  front ++ front',
-  part,
-  rest,
-  m + k,
-  more,
-  Passes-append p q r m k front front' pass pass',
-  is,
-  ap (λ z. front ++ z) e ∙ sym (append_assoc front front' (part ++ rest)),
-  left,
-  omega arith,
-)
+use Rattle.pb_port.specs.Readable.{stream_behind_parts}
+use Rattle.pb_port.proofs.ReadingLemmas.{held_sum-twice}
 
 reads_on : (p q : StreamPosition) (xs ys : List ℕ) (fs : Frames) (s u t : ℕ) (fault : Option PortFault)
     → Reached p xs q ys s u

@@ -16,7 +16,7 @@ use Rattle.pb_port.specs.Ports.{Frames}
 use Rattle.pb_port.specs.Streams.{captured, original, byte_order_of, fault_at, Passes, AreSkipped, IsHeader, IsRecord}
 use Rattle.pb_port.specs.Streams.{IsSkipped, IsFrame, IsFramed, framed}
 use Rattle.pb_port.specs.Whole.{Ends, IsStream}
-use Rattle.pb_port.proofs.StreamLemmas.{number-front, header_fault-front, framed-front, some_octets}
+use Rattle.pb_port.specs.Fronts.{number-front, header_fault-front, framed-front, some_octets}
 
 append_parts : (a b x y : List ℕ) → length a ≡ length b → a ++ x ≡ b ++ y → (a ≡ b) × (x ≡ y)
 append_parts a b x y same e = (

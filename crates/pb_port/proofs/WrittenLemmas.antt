@@ -19,10 +19,10 @@ use Rattle.pb_port.specs.Spelling.{file_header, record_head, spelled}
 use Rattle.pb_port.specs.Whole.{IsStream}
 use Rattle.pb_port.specs.Written.{position_of, spelled_all, frames_of, AreShort}
 
-header_written : IsHeader Little file_header
+pub header_written : IsHeader Little file_header
 header_written = record { long = refl; magic = refl; sound = refl }
 
-record_written : (micros : ℕ) (f : List ℕ) → length f < 65536
+pub record_written : (micros : ℕ) (f : List ℕ) → length f < 65536
     → IsFrameRecord Little (record_head micros (length f) ++ f) f
 record_written micros f short =
     let kept : captured Little (record_head micros (length f) ++ f) ≡ length f =
@@ -38,7 +38,7 @@ length_fits : (field : LengthField) (n : ℕ) → n < 65536 → n < 256 ^ octets
 length_fits Two n short = omega arith
 length_fits Four n short = omega arith
 
-frame_written : (field : LengthField) (f : List ℕ) → length f < 65536
+pub frame_written : (field : LengthField) (f : List ℕ) → length f < 65536
     → IsFramed field (big_bytes (octets_of field) (length f) ++ f) f
 frame_written field f short =
     let head = big_bytes (octets_of field) (length f) in

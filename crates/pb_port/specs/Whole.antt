@@ -19,6 +19,13 @@ IsStream position octets (f ∷ fs) skipped fault =
     × Passes position front position' n × IsFrame position' part f × (octets ≡ front ++ (part ++ rest))
     × IsStream position' rest fs more fault × (skipped ≡ n + more)
 
+-- an input has a reading with these frames
+pub record Reading (position : StreamPosition) (octets : List ℕ) : Type 0 where
+  pub frames : Frames
+  pub skipped : ℕ
+  pub fault : Option PortFault
+  pub is : IsStream position octets frames skipped fault
+
 -- two readings of one input are the same
 abbrev pub HasOneReading : Type 0
 HasOneReading =

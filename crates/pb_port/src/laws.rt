@@ -1,4 +1,6 @@
 //! Laws of the streams that ports read.
+ghost use Rattle.pb_port.specs.Inputs.{EachIsRead};
+ghost use Rattle.pb_port.specs.ReadBack.{SentIsRead};
 ghost use Rattle.pb_port.specs.Whole.{HasOneReading};
 ghost use Rattle.pb_port.specs.Runs.{RunsReadStreams};
 ghost use Rattle.pb_port.specs.Written.{WrittenIsRead};
@@ -7,6 +9,11 @@ ghost use Rattle.pb_port.specs.Written.{WrittenIsRead};
 /// its end or fault.
 pub fn streams_have_one_reading()
     ensures { HasOneReading }
+{}
+
+/// Shows that each input has a reading, whose frames are those that contracts of ports call the frames in it.
+pub fn inputs_have_a_reading()
+    ensures { EachIsRead }
 {}
 
 /// Shows that the results of successive polls, however the reads are cut, are the reading of the input: its frames in
@@ -18,4 +25,10 @@ pub fn polls_spell_the_reading()
 /// Shows that at least one frame that is written, in a capture or on a socket, is read as the same frames.
 pub fn what_is_written_is_read()
     ensures { WrittenIsRead }
+{}
+
+/// Shows that what a port wrote to an empty output is read as the frames that it sent. A beginning of the next frame
+/// may follow them.
+pub fn what_was_sent_is_read()
+    ensures { SentIsRead }
 {}

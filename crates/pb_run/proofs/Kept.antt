@@ -7,9 +7,10 @@ use Rattle.std.proofs.lemmas.Simd.{map-map}
 use Rattle.std.specs.declared.option.Option.{Option}
 use Rattle.pb_lan.specs.declared.step.Step.{Step}
 use Rattle.pb_lan.specs.declared.plan.Plan.{Plan}
+use Rattle.pb_port.proofs.OutputLemmas.{written_none}
 use Rattle.pb_run.specs.Gifts.{AreAccesses}
 use Rattle.pb_workers.specs.declared.gift.AccessGift.{AccessGift}
-use Rattle.pb_workers.specs.Ports.{Frames, PortFrames, in_front, KeepsPort}
+use Rattle.pb_workers.specs.Ports.{Frames, PortFrames, in_front, HasRead, KeepsPort}
 use Rattle.pb_lan.specs.Records.{steps_of}
 use Rattle.pb_run.specs.Runs.{ArePortsKept, no_port, port_of, last_of}
 use Rattle.pb_workers.specs.declared.access.Last.{Last}
@@ -20,6 +21,10 @@ nothing_given : (o : Option Frames) → o ≡ in_front [] o
 nothing_given None = refl
 nothing_given (Some frames) = refl
 
+nothing_read : (unread : Option Frames) → HasRead More unread [] unread
+nothing_read None = tt
+nothing_read (Some frames) = (refl, tt)
+
 fresh : (port : PortFrames) → KeepsPort port port [] More
 fresh port = record {
   given = sym (append-nil port.given);
@@ -27,6 +32,8 @@ fresh port = record {
   script = nothing_given port.script;
   used_up = tt;
   unsent = record { sent = []; both = sym (append-nil port.waiting) };
+  read = nothing_read port.unread;
+  wrote = ∣ written_none port.output ∣₁;
   gone = λ on. All-nil (λ (f : List ℕ). 65536 ≤ length f);
 }
 

@@ -16,12 +16,16 @@ use Rattle.pb_lan.specs.declared.plan.CustomerPlan.{CustomerPlan}
 use Rattle.pb_lan.specs.declared.plan.LinkPlan.{LinkPlan}
 use Rattle.pb_lan.specs.declared.plan.Plan.{Plan}
 use Rattle.pb_lan.specs.declared.record.Record.{Record}
+use Rattle.pb_lan.specs.declared.step.Place.TheVariants.{Bridge}
 use Rattle.pb_lan.specs.declared.step.Step.{Step}
 use Rattle.pb_relay.specs.Protocol.{spanning_tree}
 use Rattle.pb_run.specs.Gifts.{AreBridges, lane_gift, AreLanes, access_gift, AreAccesses}
 use Rattle.pb_workers.specs.declared.gift.AccessGift.{AccessGift}
 use Rattle.pb_workers.specs.declared.gift.BridgeGift.{BridgeGift}
 use Rattle.pb_workers.specs.declared.gift.LaneGift.{LaneGift}
+use Rattle.pb_threads.proofs.WishLemmas.{none_given}
+use Rattle.pb_threads.specs.Wishes.{Giving, AreGiven}
+use Rattle.pb_workers.specs.Settings.{settings}
 use Rattle.pb_run.specs.Meetings.{of_customers, of_lanes}
 use Rattle.pb_run.specs.Runs.{TellsEnded}
 use Rattle.pb_workers.specs.Drained.{TellsAllDrained}
@@ -58,6 +62,20 @@ lawful_bridges gift steps plan ws are all n =
     let lawful = all_at (λ x. IsLawfulBridge spanning_tree (gift x).plan (gift x).bridge (steps x)) ws j w all h in
     subst (λ (p : Plan). IsLawfulBridge spanning_tree p (suc j) (steps w)) is.plans
     (subst (λ m. IsLawfulBridge spanning_tree (gift w).plan m (steps w)) same lawful))
+
+-- the settings of the bridges of a run are those that the gate wished for, by the number of each bridge
+pub all_wished : {X : Type 0} (gives : Giving) (gift : X → BridgeGift) (steps : X → List Step) (plan : Plan)
+    (ws : List X) → AreBridges plan (length plan.bridges) (map gift ws)
+    → All (λ w. AreGiven (gives (Bridge (gift w).worker)) (settings (steps w))) ws → (n : ℕ)
+    → AreGiven (gives (Bridge n)) (settings (steps_of (map steps ws) n))
+all_wished gives gift steps plan ws are all n =
+    by_number (λ m ms. AreGiven (gives (Bridge m)) (settings ms)) steps ws n
+    (λ m. none_given (gives (Bridge m)) [] refl)
+    (λ j w h.
+    let is = are.each j (gift w) (part_at gift ws j w h) in
+    let same : (gift w).worker ≡ suc j = is.worker ∙ add-one j in
+    subst (λ m. AreGiven (gives (Bridge m)) (settings (steps w))) same
+    (all_at (λ x. AreGiven (gives (Bridge (gift x).worker)) (settings (steps x))) ws j w all h))
 
 lawful_lane : {X : Type 0} (gift : X → LaneGift) (steps : X → List Step) (ws : List X) (r n : ℕ) (g : LaneGift)
     → slice_get (map gift ws) r ≡ Some g → n ≡ suc r

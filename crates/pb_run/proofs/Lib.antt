@@ -7,3 +7,4 @@ mod Lawful
 mod Kept
 mod SettledLemmas
 mod FreshTaps
+mod CaptureLemmas

@@ -6,3 +6,5 @@ pub mod Rooms
 pub mod Runs
 pub mod Taps
 pub mod Modes
+pub mod Captures
+pub mod Settings

@@ -32,7 +32,15 @@ last_of lasts number = unwrap_or (numbered lasts number) More
 
 -- a port without frames, for a number that no port has
 abbrev pub no_port : PortFrames
-no_port = record { script = None; given = []; tally = []; waiting = []; is_over = false }
+no_port = record {
+  script = None;
+  unread = None;
+  given = [];
+  tally = [];
+  waiting = [];
+  is_over = false;
+  output = None;
+}
 
 -- the port of this number
 abbrev pub port_of : List PortFrames → ℕ → PortFrames

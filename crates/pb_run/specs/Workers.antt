@@ -9,12 +9,14 @@ use Rattle.pb_workers.specs.declared.bridge.BridgeWorker.{BridgeWorker}
 use Rattle.pb_run.specs.declared.build.Built.{Built}
 use Rattle.pb_workers.specs.declared.lane.LaneWorker.{LaneWorker}
 
--- the workers are those of all places of the plan, and no customer port has taken a step or reported its end
+-- the workers are those of all places of the plan, no customer port has taken a step or reported its end, and no bridge
+-- has taken a step
 pub record IsBuilt {X P : Type 0} {W : Ghosts X} (plan : Plan) (built : Built X P W) : Type 0 where
   pub accesses : AreAccesses plan (length plan.customers) (map given_access built.accesses.items)
   pub fresh : All (λ d. (d.place.steps ≡ []) × (d.book.last ≡ More)) built.accesses.items
   pub lanes : AreLanes plan (length plan.links) (map given_lane built.lanes.items)
   pub bridges : AreBridges plan (length plan.bridges) (map given_bridge built.bridges.items)
+  pub unset : All (λ b. b.bridge.steps ≡ []) built.bridges.items
 
 -- the workers are those of all places of the plan, once they are back
 pub record AreBack {X P : Type 0} {W : Ghosts X} (plan : Plan) (ds : List (Access X W)) (ls : List (LaneWorker X P W)) (bs : List (BridgeWorker X W)) : Type 0 where

@@ -87,6 +87,7 @@ fn bridge_worker<W: Wiring>(
     requires there { (port : ℕ) → IsNumber port 16
         → HasInner ends.old.outlets.items ends.old.inlets.items (number, port) }
     ensures gift { IfOk result (λ worker. IsBridgeGift plan.now number (given_bridge worker)) }
+    ensures unset { IfOk result (λ worker. worker.bridge.steps ≡ []) }
     ensures inner { IfOk result (λ worker. (at : ℕ × ℕ) → at.0 ≢ number
         → HasInner ends.old.outlets.items ends.old.inlets.items at
         → HasInner ends.new.outlets.items ends.new.inlets.items at) }
@@ -114,6 +115,7 @@ fn bridge_workers<W: Wiring>(
         → HasInner ends.old.outlets.items ends.old.inlets.items at }
     ensures gifts { IfOk result (λ workers. AreBridges plan.now (length plan.now.bridges)
         (map given_bridge workers.items)) }
+    ensures unset { IfOk result (λ workers. All (λ b. b.bridge.steps ≡ []) workers.items) }
     ensures outer { IfOk result (λ workers. (at : ℕ × ℕ) → HasOuter ends.old.outlets.items ends.old.inlets.items at
         → HasOuter ends.new.outlets.items ends.new.inlets.items at) }
 {

@@ -8,6 +8,7 @@
 mod build;
 mod ended;
 mod fault;
+mod laws;
 mod meet;
 mod outside;
 mod record;
@@ -20,9 +21,10 @@ mod wires;
 
 pub use ended::Ended;
 pub use fault::{RunCause, RunFault};
+pub use laws::runs_carry_captures;
 pub use outside::{Held, LaneTap};
 pub use pb_frame::Memory;
-pub use pb_lan::Limits;
+pub use pb_lan::{Limits, Past};
 pub use pb_tap::{Recorder, Tap, Tape};
 pub use pb_threads::{Bells, Dropped, Gate, Go, PortView, StationView, Wish};
 pub use pb_workers::{

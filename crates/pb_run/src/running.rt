@@ -5,6 +5,7 @@ ghost use Rattle.pb_lan.specs.Plans.{IsSound};
 ghost use Rattle.pb_run.specs.Modes.{FollowsMode};
 ghost use Rattle.pb_run.specs.Rooms.{HasPlaceRooms, HasRooms};
 ghost use Rattle.pb_run.specs.Runs.{IsTrueRecord, IsRun, HasNotRun};
+ghost use Rattle.pb_run.specs.Settings.{AreWished};
 ghost use Rattle.pb_run.specs.Taps.{ComesBack};
 ghost use Rattle.pb_run.specs.Wires.{AreRingsOf};
 ghost use Rattle.pb_run.specs.Workers.{IsBuilt, AreBack};
@@ -158,13 +159,13 @@ fn run_built<W: Wiring + Send, G: Gate, R: Threads + Wait + Clock + Sync>(
     gate: &G,
     limits: Limits,
 ) -> Result<WholeRun, RunFault>
-    requires sound { IsSound plan.now }
-    requires count { vec_len ports ≡ length plan.now.customers }
+    requires plan { IsSound plan.now × (vec_len ports ≡ length plan.now.customers) }
     requires built { IsBuilt plan.now built }
     requires rooms { HasRooms plan.now rooms }
     ensures run { IfOk result (λ kept. IsRun (λ b. port_frames (Port-box b) b.value)
         plan.now ports kept.ran.ports kept.ran.counts kept.ran.last.items kept.ran.ended kept.ran.settled) }
     ensures mode { IfOk result (λ kept. FollowsMode W.sets W.waits kept.ran.counts) }
+    ensures wishes { IfOk result (λ kept. AreWished (G.gives gate.now) kept.ran.counts) }
     ensures back { IfOk result (λ kept. ComesBack W.keeps kept.ran.counts kept.rec kept.taps.items) }
     ensures failed { IfErr result (λ fault. (fault.cause ≡ RunCause.PortCount → ⊥)
         × (fault.ports.items ≡ ports.items)) }
@@ -245,12 +246,12 @@ fn run_wired<W: Wiring + Send, G: Gate, R: Threads + Wait + Clock + Sync>(
     mode: Mode,
 ) -> Result<WholeRun, RunFault>
     requires mode { IsModeFor W.keeps W.sets W.waits mode }
-    requires sound { IsSound plan.now }
-    requires count { vec_len ports ≡ length plan.now.customers }
+    requires plan { IsSound plan.now × (vec_len ports ≡ length plan.now.customers) }
     requires rings { AreRingsOf plan.now W.rings rings }
     ensures run { IfOk result (λ kept. IsRun (λ b. port_frames (Port-box b) b.value)
         plan.now ports kept.ran.ports kept.ran.counts kept.ran.last.items kept.ran.ended kept.ran.settled) }
     ensures mode { IfOk result (λ kept. FollowsMode W.sets W.waits kept.ran.counts) }
+    ensures wishes { IfOk result (λ kept. AreWished (G.gives gate.now) kept.ran.counts) }
     ensures back { IfOk result (λ kept. ComesBack W.keeps kept.ran.counts kept.rec kept.taps.items) }
     ensures failed { IfErr result (λ fault. (fault.cause ≡ RunCause.PortCount → ⊥)
         × (fault.ports.items ≡ ports.items)) }
@@ -284,6 +285,7 @@ pub(crate) fn run_places<G: Gate, R: Threads + Wait + Clock + Sync>(
     ensures run { IfOk result (λ kept. IsRun (λ b. port_frames (Port-box b) b.value)
         plan.now ports kept.ran.ports kept.ran.counts kept.ran.last.items kept.ran.ended kept.ran.settled) }
     ensures mode { IfOk result (λ kept. FollowsMode mode.sets mode.waits kept.ran.counts) }
+    ensures wishes { IfOk result (λ kept. AreWished (G.gives gate.now) kept.ran.counts) }
     ensures back { IfOk result (λ kept. ComesBack mode.keeps kept.ran.counts kept.rec kept.taps.items) }
     ensures failed { IfErr result (λ fault. HasNotRun plan.now ports fault.ports fault.cause) }
 {

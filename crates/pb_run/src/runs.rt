@@ -1,10 +1,11 @@
 //! The runs of a plan: with steps that are counted or kept, with ports that are set, and with taps.
 
 ghost use Rattle.std.specs.Prelude.{◌≡◌, true, IfOk, IfErr};
-ghost use Rattle.pb_lan.specs.Laws.{AreTracedFromStart};
+ghost use Rattle.pb_lan.specs.Laws.{AreTracedFromStart, NoPortIsSet};
 ghost use Rattle.pb_lan.specs.Plans.{IsSound};
 ghost use Rattle.pb_lan.specs.declared.plan.Spanning.TheVariants.{Fixed};
 ghost use Rattle.pb_run.specs.Runs.{IsRun, HasNotRun};
+ghost use Rattle.pb_run.specs.Settings.{AreWished};
 ghost use Rattle.pb_run.specs.Taps.{AreTapped};
 ghost use Rattle.pb_workers.specs.Lossless.{NoFullQueueRefuses};
 ghost use Rattle.pb_workers.specs.Ports.{port_frames};
@@ -43,12 +44,16 @@ use std::time::Clock;
 /// shelved, a write of it failed, or the frame has more than 65,535 octets. For a port that keeps a script, the script
 /// before the run is what entered, followed by the script that remains.
 ///
+/// For a port whose devices report their octets, the frames in the octets that were unread are what entered, followed
+/// by those in the octets that still are. The octets that it wrote are the encoding of the frames that it sent, up to a
+/// beginning of the next. For two captures [`runs_carry_captures`](crate::runs_carry_captures) puts both together.
+///
 /// If the run is to be lossless, an item waits on its ring while a queue is full to which its bridge may copy it. No
 /// bridge refuses a copy of a frame because a queue is full. Over a loop of links frames can wait for each other: then
 /// the run does not end by itself.
 ///
-/// If the plan gives the states of the ports, none changes: each frame of a service for which the start is a forest was
-/// handled under that forest.
+/// No port is enabled or disabled. If the plan gives the states of the ports, none changes: each frame of a service for
+/// which the start is a forest was handled under that forest.
 ///
 /// The run has drained exactly if every port came to its end and no frame is on its way. `settled` reports whether the
 /// bridges have converged after all their steps.
@@ -70,6 +75,7 @@ pub fn run<G: Gate, R: Threads + Wait + Clock + Sync>(
     requires { IsSound plan.now }
     ensures run { IfOk result (λ ran. IsRun (λ b. port_frames (Port-box b) b.value)
         plan.now ports ran.ports ran.counts ran.last.items ran.ended ran.settled) }
+    ensures unset { IfOk result (λ ran. NoPortIsSet ran.counts) }
     ensures planned { IfOk result (λ ran. plan.now.spanning ≡ Fixed → AreTracedFromStart plan.now ran.counts) }
     ensures lossless { IfOk result (λ ran. is_lossless ≡ true → NoFullQueueRefuses ran.counts) }
     ensures failed { IfErr result (λ fault. HasNotRun plan.now ports fault.ports fault.cause) }
@@ -86,6 +92,9 @@ pub fn run<G: Gate, R: Threads + Wait + Clock + Sync>(
 /// Runs a sound plan as [`run`] does. Meanwhile bridges enable and disable their ports to other bridges, as the gate
 /// wishes. A wish for any other port does nothing. Each such setting is a step of its bridge like any other. The record
 /// is lawful all the same, and all that follows from that holds.
+///
+/// Ports are set in no other way: each setting of a bridge's port is a wish that the gate returned for this bridge and
+/// this port, in order. It was returned after the wishes of the settings before it.
 ///
 /// If the plan gives the states of the ports, and none was set, each frame of a service for which the start is a forest
 /// was handled under that forest.
@@ -105,6 +114,7 @@ pub fn run_set<G: Gate, R: Threads + Wait + Clock + Sync>(
     requires { IsSound plan.now }
     ensures run { IfOk result (λ ran. IsRun (λ b. port_frames (Port-box b) b.value)
         plan.now ports ran.ports ran.counts ran.last.items ran.ended ran.settled) }
+    ensures wishes { IfOk result (λ ran. AreWished (G.gives gate.now) ran.counts) }
     ensures lossless { IfOk result (λ ran. is_lossless ≡ true → NoFullQueueRefuses ran.counts) }
     ensures failed { IfErr result (λ fault. HasNotRun plan.now ports fault.ports fault.cause) }
 {
@@ -139,6 +149,7 @@ pub fn run_tapped<G: Gate, R: Threads + Wait + Clock + Sync>(
     requires { IsSound plan.now }
     ensures run { IfOk result (λ r. IsRun (λ b. port_frames (Port-box b) b.value)
         plan.now ports r.ran.ports r.ran.counts r.ran.last.items r.ran.ended r.ran.settled) }
+    ensures wishes { IfOk result (λ r. AreWished (G.gives gate.now) r.ran.counts) }
     ensures lossless { IfOk result (λ r. is_lossless ≡ true → NoFullQueueRefuses r.ran.counts) }
     ensures taps { IfOk result (λ r. AreTapped r.ran.counts.lanes r.taps.items) }
     ensures failed { IfErr result (λ fault. HasNotRun plan.now ports fault.ports fault.cause) }
@@ -169,6 +180,7 @@ pub fn run_kept<G: Gate, R: Threads + Wait + Clock + Sync>(
     requires { IsSound plan.now }
     ensures run { IfOk result (λ kept. IsRun (λ b. port_frames (Port-box b) b.value)
         plan.now ports kept.ran.ports kept.rec kept.ran.last.items kept.ran.ended kept.ran.settled) }
+    ensures unset { IfOk result (λ kept. NoPortIsSet kept.rec) }
     ensures planned { IfOk result (λ kept. plan.now.spanning ≡ Fixed → AreTracedFromStart plan.now kept.rec) }
     ensures lossless { IfOk result (λ kept. is_lossless ≡ true → NoFullQueueRefuses kept.rec) }
     ensures counts { IfOk result (λ kept. kept.ran.counts ≡ kept.rec) }

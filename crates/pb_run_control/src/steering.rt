@@ -11,7 +11,7 @@ use pb_control_socket::Control;
 use pb_frame::Memory;
 use pb_lan::{Place, Plan};
 use pb_service::{PortEvent, PortSpec};
-use pb_threads::{Bells, Dropped, Gate, Go, PortView, StationView, Wish};
+use pb_threads::{Bells, Dropped, Gate, Go, Past, PortView, StationView, Wish};
 use std::alloc::Global;
 use std::fs::Files;
 use std::sync::Mutex;
@@ -284,7 +284,7 @@ impl<G: RunProgress> Gate for Steering<'_, G> {
         }
     }
 
-    fn wish(&self, place: Place, now: u32) -> Option<Wish> {
+    fn wish(&self, place: Place, now: u32, _past: Past<Wish>) -> Option<Wish> {
         match place {
             Place::Bridge(bridge) => {
                 self.traffic.tick(bridge, now);

@@ -30,6 +30,8 @@ run_tells view plan before after rec lasts end settled run = record {
     script = λ number. (run.ports.kept number).script;
     used_up = λ number. (run.ports.kept number).used_up;
     unsent = λ number. (run.ports.kept number).unsent;
+    read = λ number. (run.ports.kept number).read;
+    wrote = λ number. (run.ports.kept number).wrote;
     gone = λ number. (run.ports.kept number).gone;
   };
   drained = run.ended;

@@ -15,7 +15,8 @@ use Rattle.pb_relay.specs.Settled.{TellsSettled}
 use Rattle.pb_run.specs.Runs.{port_of, last_of}
 use Rattle.pb_run.specs.declared.ended.Ended.{Ended}
 use Rattle.pb_run.specs.declared.ended.Ended.TheVariants.{Drained}
-use Rattle.pb_workers.specs.Ports.{PortFrames, HasSent, in_front, given_up, IsEnded}
+use Rattle.pb_port.specs.Outputs.{IsWrittenTo}
+use Rattle.pb_workers.specs.Ports.{PortFrames, HasRead, HasSent, in_front, given_up, IsEnded}
 use Rattle.pb_workers.specs.declared.access.Last.{Last}
 use Rattle.pb_workers.specs.declared.access.Last.TheVariants.{End}
 
@@ -28,6 +29,8 @@ pub record PortsTell (before after : List PortFrames) (customers : List (List St
   pub script : (number : ℕ) → (port_of before number).script ≡ in_front (entered (steps_of customers number)) (port_of after number).script
   pub used_up : (number : ℕ) → IsEnded (last_of lasts number) (port_of after number).script
   pub unsent : (number : ℕ) → HasSent ((port_of before number).waiting ++ left (steps_of customers number)) (port_of after number).waiting
+  pub read : (number : ℕ) → HasRead (last_of lasts number) (port_of before number).unread (entered (steps_of customers number)) (port_of after number).unread
+  pub wrote : (number : ℕ) → ∥ IsWrittenTo (port_of before number).output (port_of after number).output (unsent number).sent ∥₁
   pub gone : (number : ℕ) → (port_of after number).is_over ≡ false → All (λ f. 65536 ≤ length f) (given_up (steps_of customers number))
 
 -- the record is lawful and faithful, the ports tell the same, and so do the ends of the run

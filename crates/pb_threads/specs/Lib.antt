@@ -2,3 +2,4 @@ pub mod Rooms
 pub mod Slots
 pub mod Together
 pub mod Clocks
+pub mod Wishes

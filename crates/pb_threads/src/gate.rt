@@ -1,8 +1,13 @@
 //! The gate that each worker passes before a turn, and the wishes that it hands on.
 
+ghost use Rattle.std.specs.Prelude.{◌≡◌, Bool, true, List, Some};
+ghost use Rattle.pb_lan.specs.declared.step.Place.{Place};
+ghost use Rattle.pb_threads.specs.Wishes.{AreGiven};
+ghost use Rattle.pb_threads.specs.declared.gate.Wish.{Wish};
+
 use crate::bells::Bells;
 use crate::view::{PortView, StationView};
-use pb_lan::{Place, Reason};
+use pb_lan::{Past, Place, Reason};
 use std::time::Duration;
 
 /// The decision of a gate.
@@ -35,6 +40,10 @@ pub enum Dropped {
 /// A gate that is passed before each turn of a place. Mostly the place's own worker takes the turn; while it sleeps,
 /// the worker of another place may.
 pub trait Gate: Sync {
+    /// Whether the gate may give this wish for a place, after these that it gave for the place and that were fulfilled.
+    /// A gate that leaves it out may give any wish.
+    ghost gives: { Self → Place → List Wish → Wish → Bool } = { λ _ _ _ _. true };
+
     /// Returns whether a place takes the turn of this number. Its first turn has number 0. A worker that slept leaves
     /// out the numbers of the turns that it would have taken meanwhile.
     fn pass(&self, place: Place, turn: u64) -> Go;
@@ -46,8 +55,13 @@ pub trait Gate: Sync {
     }
 
     /// Returns the next wish for a place, if there is one. The worker fulfils it in place of its next turn, and asks
-    /// again. The place's clock has ticked `now` times. A wish is returned once.
-    fn wish(&self, _place: Place, _now: u32) -> Option<Wish> {
+    /// again. The place's clock has ticked `now` times. A wish is returned once. `past` has the wishes that the gate
+    /// returned for the place before and that were fulfilled, in order: contracts alone see it.
+    fn wish(&self, place: Place, now: u32, past: Past<Wish>) -> Option<Wish>
+        requires { AreGiven (gives self.now place) past.items }
+        ensures { (wish : Wish) → result ≡ Some wish → gives self.now place past.items wish ≡ true }
+    {
+        let _ = (place, now, past);
         None
     }
 

@@ -3,7 +3,7 @@
 //! A frame that meets sleeping workers crosses the network in the thread of the worker that it woke first. A worker
 //! that has much to do wakes the others instead, so that all work at once. No contract speaks of who takes a turn.
 
-ghost use Rattle.std.specs.Prelude.{◌≤◌};
+ghost use Rattle.std.specs.Prelude.{◌≡◌, ◌≤◌};
 
 use crate::bells::Bells;
 use crate::gate::{Gate, Go};
@@ -181,7 +181,9 @@ pub(crate) fn help_at<K: Roster<T>, T: Work, G: Gate, R: Clock>(
     words: &Words,
     limits: Limits,
     helper: &mut Helper,
-) -> bool {
+) -> bool
+    requires { K.gives ≡ G.gives gate.now }
+{
     let Some(mut held) = slot.held.try_lock() else {
         return false;
     };
@@ -199,7 +201,9 @@ fn help_owned<K: Roster<T>, T: Work, G: Gate, R: Clock>(
     words: &Words,
     limits: Limits,
     helper: &mut Helper,
-) -> bool {
+) -> bool
+    requires { K.gives ≡ G.gives gate.now }
+{
     let place = owned.place();
     let is_watched = gate.is_watched(place);
     if !owned.may_be_helped(is_watched) {

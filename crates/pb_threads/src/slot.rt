@@ -1,26 +1,31 @@
 //! The slots of places. A place is in its slot while no worker takes its turns.
 
-ghost use Rattle.std.specs.Prelude.{List, []};
+ghost use Rattle.std.specs.Prelude.{◌≡◌, List, [], true};
 ghost use Rattle.std.specs.Coded.{Coded-set, coded_option};
 ghost use Rattle.pb_threads.specs.Slots.{IsKept, HasGift};
+ghost use Rattle.pb_threads.specs.Wishes.{Giving, HasFulfilledGiven, HasFulfilledNone};
 
-use crate::gate::Gate;
+use crate::gate::{Gate, Wish};
 use crate::showing::{show_ports, show_stations};
 use crate::ticks::{Moment, Ticks};
-use crate::turns::{Finish, Turn, Work};
-use pb_lan::{Limits, Place};
+use crate::turns::{Finish, Turn, TurnStatus, Work};
+use pb_lan::{Limits, Past, Place};
 use std::marker::{Brand, PhantomData};
 use std::sync::{Mutex, Wait};
 use std::thread;
 use std::time::Clock;
 
-/// The places of one kind as a type, as a run was given them.
+/// The places of one kind as a type, as a run was given them, and the wishes that its gate may give.
 pub(crate) trait Roster<T> {
     ghost places: { List T };
+
+    ghost gives: { Giving };
 }
 
 impl<T> Roster<T> for Brand {
     ghost places = { [] };
+
+    ghost gives = { λ _ _ _. true };
 }
 
 /// A place with its clock and the number of its next turn, which go with it from worker to worker.
@@ -34,15 +39,20 @@ pub(crate) struct Owned<K: Roster<T>, T: Work> {
     pub turn: u64,
     /// The reason why the place takes no more turns, once there is one.
     pub finish: Option<Finish>,
+    /// The wishes that the place has fulfilled.
+    past: Past<Wish>,
     of: PhantomData<K>,
     ghost fits: { T.fits place } by { T.is_fact place },
     ghost given: { HasGift T.given K.places index place } by { Coded-set (coded_option T.coded) _ _ },
+    ghost known: { past.items ≡ T.fulfilled place },
+    ghost wishes: { HasFulfilledGiven K.gives T.named T.given T.fulfilled place },
 }
 
 impl<K: Roster<T>, T: Work> Owned<K, T> {
     /// Returns the place of this index, which has taken no turn.
     fn new<R: Clock>(rt: &R, index: usize, place: T, limits: Limits) -> Owned<K, T>
-        requires { IsKept T.given T.fits K.places index place }
+        requires kept { IsKept T.given T.fits K.places index place }
+        requires fresh { HasFulfilledNone T.fulfilled place }
     {
         let ticks = Ticks::new(rt, limits);
         Owned::of(index, place, ticks)
@@ -50,7 +60,8 @@ impl<K: Roster<T>, T: Work> Owned<K, T> {
 
     /// Returns the place of this index with its clock.
     fn of(index: usize, place: T, ticks: Ticks) -> Owned<K, T>
-        requires { IsKept T.given T.fits K.places index place }
+        requires kept { IsKept T.given T.fits K.places index place }
+        requires fresh { HasFulfilledNone T.fulfilled place }
     {
         Owned {
             index,
@@ -58,6 +69,7 @@ impl<K: Roster<T>, T: Work> Owned<K, T> {
             ticks,
             turn: 0,
             finish: None,
+            past: Past::new(),
             of: PhantomData,
         }
     }
@@ -93,18 +105,32 @@ impl<K: Roster<T>, T: Work> Owned<K, T> {
     }
 
     /// Shows the stations of the place if the gate asks for them. Then takes a turn, or fulfils a wish in its place.
-    pub(crate) fn take_turn<G: Gate, R: Clock>(&mut self, rt: &R, gate: &G) -> Turn {
+    pub(crate) fn take_turn<G: Gate, R: Clock>(&mut self, rt: &R, gate: &G) -> Turn
+        requires { K.gives ≡ G.gives gate.now }
+    {
         let place = self.place.place();
         self.turn = self.turn.saturating_add(1);
         show_stations(&self.place, gate, place);
-        match gate.wish(place, self.ticks.last().now) {
-            Some(wish) => self.place.fulfil(wish),
+        match gate.wish(place, self.ticks.last().now, self.past.copied()) {
+            Some(wish) => self.fulfil(wish),
             None => {
                 let mut moment = self.ticks.next(rt);
                 moment.is_open = moment.is_open && gate.is_open();
                 self.place.turn(moment)
             }
         }
+    }
+
+    /// Fulfils a wish that was given for the place after those that it has fulfilled.
+    fn fulfil(&mut self, wish: Wish) -> Turn
+        requires { K.gives (T.named (T.given self.old.place)) (T.fulfilled self.old.place) wish ≡ true }
+    {
+        let turned = self.place.fulfil(wish);
+        if turned.status != TurnStatus::Done {
+            return turned;
+        }
+        self.past.note(&wish);
+        turned
     }
 
     /// Leaves out as many turns as would have been taken in a sleep.
@@ -121,7 +147,8 @@ impl<K: Roster<T>, T: Work> Owned<K, T> {
 
     /// Returns the index and the place.
     fn into_parts(self) -> (usize, T)
-        ensures { IsKept T.given T.fits K.places result.0 result.1 }
+        ensures kept { IsKept T.given T.fits K.places result.0 result.1 }
+        ensures wishes { HasFulfilledGiven K.gives T.named T.given T.fulfilled result.1 }
     {
         (self.index, self.place)
     }
@@ -143,7 +170,8 @@ impl<K: Roster<T>, T: Work> Slot<K, T> {
 
     /// Puts the place of this index into the slot.
     pub(crate) fn put<R: Wait + Clock>(&self, rt: &R, index: usize, place: T, limits: Limits)
-        requires { IsKept T.given T.fits K.places index place }
+        requires kept { IsKept T.given T.fits K.places index place }
+        requires fresh { HasFulfilledNone T.fulfilled place }
     {
         *self.held.lock(rt) = Some(Owned::new(rt, index, place, limits));
     }
@@ -151,7 +179,8 @@ impl<K: Roster<T>, T: Work> Slot<K, T> {
     /// Returns the place of this index, which was put into the slot. No contract speaks of what a lock holds, so that
     /// the index is compared. Does not return if the slot has another place or none, which does not happen.
     pub(crate) fn take<R: Wait>(self, rt: &R, index: usize) -> T
-        ensures { IsKept T.given T.fits K.places index result }
+        ensures kept { IsKept T.given T.fits K.places index result }
+        ensures wishes { HasFulfilledGiven K.gives T.named T.given T.fulfilled result }
     {
         if let Some(owned) = self.held.into_inner() {
             let (found, place) = owned.into_parts();

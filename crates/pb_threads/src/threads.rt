@@ -3,7 +3,8 @@
 ghost use Rattle.std.specs.Prelude.{◌≡◌, ◌≤◌, [], length, vec_len, All, IfOk, IfErr};
 ghost use Rattle.std.specs.Vec.{vec_capacity};
 ghost use Rattle.pb_threads.specs.Rooms.{HasRooms, HasSlots};
-ghost use Rattle.pb_threads.specs.Together.{AllFit, AreBack, AreUntouched, ArePlacesOf};
+ghost use Rattle.pb_threads.specs.Together.{AllFit, AreBack, AreUntouched, ArePlacesOf, NoneFulfilled};
+ghost use Rattle.pb_threads.specs.Wishes.{AreForGate, HasFulfilledGiven, HasFulfilledNone};
 
 use crate::gate::Gate;
 use crate::helping::{Helper, help_at};
@@ -81,7 +82,9 @@ where
         gate: &G,
         limits: Limits,
         helper: &mut Helper,
-    ) -> bool {
+    ) -> bool
+        requires { AreForGate KC.gives KL.gives KB.gives (G.gives gate.now) }
+    {
         if let Some(slot) = self.customers.get(worker) {
             return help_at(rt, slot, gate, &self.words, limits, helper);
         }
@@ -97,7 +100,9 @@ where
     }
 
     /// Helps the places that a worker has noted, and those beside them in turn.
-    fn help_all<G: Gate, R: Clock>(&self, rt: &R, gate: &G, limits: Limits, helper: &mut Helper) {
+    fn help_all<G: Gate, R: Clock>(&self, rt: &R, gate: &G, limits: Limits, helper: &mut Helper)
+        requires { AreForGate KC.gives KL.gives KB.gives (G.gives gate.now) }
+    {
         for _ in 0..MOST_PLACES {
             let Some(worker) = helper.next_errand() else {
                 break;
@@ -132,6 +137,8 @@ where
     B: Work,
     G: Gate,
     R: Wait + Clock,
+    requires own { K.gives ≡ G.gives gate.now }
+    requires wishes { AreForGate KC.gives KL.gives KB.gives (G.gives gate.now) }
 {
     if !floor.words.wait(rt) {
         return;
@@ -229,9 +236,16 @@ where
     B: Work + Send + 's,
     G: Gate,
     R: Threads + Wait + Clock + Sync,
+    requires own { K.gives ≡ G.gives gate.now }
+    requires wishes { AreForGate KC.gives KL.gives KB.gives (G.gives gate.now) }
 {
     for slot in slots {
-        let started = scope.spawn(move || run_place(rt, slot, floor, gate, limits));
+        let started = scope.spawn(
+            move ||
+                requires own { K.gives ≡ G.gives gate.now }
+                requires wishes { AreForGate KC.gives KL.gives KB.gives (G.gives gate.now) }
+            { run_place(rt, slot, floor, gate, limits) },
+        );
         if started.is_err() {
             return false;
         }
@@ -249,6 +263,7 @@ fn fill_row<K: Roster<T>, T: Work, R: Wait + Clock>(
     requires count { length slots.now ≡ vec_len places }
     requires places { places.items ≡ K.places }
     requires fits { All T.fits places.items }
+    requires fresh { All (HasFulfilledNone T.fulfilled) places.items }
 {
     let mut index = 0;
     for place in places {
@@ -265,7 +280,8 @@ fn collect_row<K: Roster<T>, T: Work, R: Wait>(
 ) -> Vec<T>
     requires room { (room.items ≡ []) × (vec_len slots ≤ vec_capacity room) }
     requires count { vec_len slots ≡ length K.places }
-    ensures { AreBack T.given T.fits K.places result.items }
+    ensures back { AreBack T.given T.fits K.places result.items }
+    ensures wishes { All (HasFulfilledGiven K.gives T.named T.given T.fulfilled) result.items }
 {
     let mut places = room;
     for slot in slots {
@@ -299,6 +315,8 @@ where
     R: Threads + Wait + Clock + Sync,
     requires fits { AllFit C.fits L.fits B.fits places }
     requires known { ArePlacesOf KC.places KL.places KB.places places }
+    requires fresh { NoneFulfilled C.fulfilled L.fulfilled B.fulfilled places }
+    requires wishes { AreForGate KC.gives KL.gives KB.gives (G.gives gate.now) }
     requires slots { HasSlots places floor.now.customers floor.now.lanes floor.now.bridges }
     ensures { IfErr result (λ back. back ≡ places) }
 {
@@ -339,6 +357,8 @@ where
     R: Threads + Wait + Clock + Sync,
     requires fits { AllFit C.fits L.fits B.fits places }
     requires known { ArePlacesOf KC.places KL.places KB.places places }
+    requires fresh { NoneFulfilled C.fulfilled L.fulfilled B.fulfilled places }
+    requires wishes { AreForGate KC.gives KL.gives KB.gives (G.gives gate.now) }
     requires slots { HasSlots places floor.now.customers floor.now.lanes floor.now.bridges }
     ensures { IfErr result (λ back. back ≡ places) }
 {
@@ -348,13 +368,15 @@ where
         move |scope| -> Result<(), Places<C, L, B>>
             requires fits { AllFit C.fits L.fits B.fits places }
             requires known { ArePlacesOf KC.places KL.places KB.places places }
+            requires fresh { NoneFulfilled C.fulfilled L.fulfilled B.fulfilled places }
+            requires wishes { AreForGate KC.gives KL.gives KB.gives (G.gives gate.now) }
             requires slots { HasSlots places floor.now.customers floor.now.lanes floor.now.bridges }
             ensures { IfErr result (λ back. back ≡ places) }
         { start_all(scope, rt, floor, places, gate, limits) },
     )
 }
 
-/// Runs a worker for each place, as [`run_all`] does. The rosters have the places.
+/// Runs a worker for each place, as [`run_all`] does. The rosters have the places, and know the wishes of the gate.
 fn run_known<KC, KL, KB, C, L, B, G, R>(
     rt: &R,
     alloc: Global,
@@ -373,10 +395,16 @@ where
     G: Gate,
     R: Threads + Wait + Clock + Sync,
     requires fits { AllFit C.fits L.fits B.fits places }
-    requires known { ArePlacesOf KC.places KL.places KB.places places }
+    requires rosters { ArePlacesOf KC.places KL.places KB.places places
+        × AreForGate KC.gives KL.gives KB.gives (G.gives gate.now) }
+    requires fresh { NoneFulfilled C.fulfilled L.fulfilled B.fulfilled places }
     ensures customers { AreBack C.given C.fits places.customers.items result.places.customers.items }
     ensures lanes { AreBack L.given L.fits places.lanes.items result.places.lanes.items }
     ensures bridges { AreBack B.given B.fits places.bridges.items result.places.bridges.items }
+    ensures wishes { AllFit
+        (HasFulfilledGiven (G.gives gate.now) C.named C.given C.fulfilled)
+        (HasFulfilledGiven (G.gives gate.now) L.named L.given L.fulfilled)
+        (HasFulfilledGiven (G.gives gate.now) B.named B.given B.fulfilled) result.places }
     ensures untouched { IfErr result.verdict (λ fault. AreUntouched places result.places) }
 {
     let floor = floor_for::<KC, KL, KB, C, L, B>(alloc, &places, left);
@@ -404,9 +432,11 @@ where
 /// meanwhile the workers of places beside theirs may take turns of their places. `left` counts what there is to do at
 /// the start. Each turn reports how that count changes, and all workers end when it is 0.
 ///
-/// Each place comes back with what it was given, and as it may be between turns. The verdict is `Memory` if an
-/// allocation failed before the workers were started, and `Spawn` if a thread could not be started. No worker takes a
-/// turn then, and the places come back unchanged.
+/// Each place comes back with what it was given, and as it may be between turns. Each wish that it has fulfilled is one
+/// that the gate returned for it, in order.
+///
+/// The verdict is `Memory` if an allocation failed before the workers were started, and `Spawn` if a thread could not
+/// be started. No worker takes a turn then, and the places come back unchanged.
 pub fn run_all<
     C: Work + Send,
     L: Work + Send,
@@ -421,10 +451,15 @@ pub fn run_all<
     limits: Limits,
     left: u64,
 ) -> Worked<C, L, B>
-    requires { AllFit C.fits L.fits B.fits places }
+    requires fits { AllFit C.fits L.fits B.fits places }
+    requires fresh { NoneFulfilled C.fulfilled L.fulfilled B.fulfilled places }
     ensures customers { AreBack C.given C.fits places.customers.items result.places.customers.items }
     ensures lanes { AreBack L.given L.fits places.lanes.items result.places.lanes.items }
     ensures bridges { AreBack B.given B.fits places.bridges.items result.places.bridges.items }
+    ensures wishes { AllFit
+        (HasFulfilledGiven (G.gives gate.now) C.named C.given C.fulfilled)
+        (HasFulfilledGiven (G.gives gate.now) L.named L.given L.fulfilled)
+        (HasFulfilledGiven (G.gives gate.now) B.named B.given B.fulfilled) result.places }
     ensures untouched { IfErr result.verdict (λ fault. AreUntouched places result.places) }
 {
     run_known::<Brand, Brand, Brand, C, L, B, G, R>(rt, alloc, places, gate, limits, left)

@@ -3,6 +3,9 @@
 ghost use Rattle.std.specs.Prelude.{◌≡◌, ℕ, List, [], None, IfSome};
 ghost use Rattle.std.specs.Coded.{Coded};
 ghost use Rattle.std.specs.declared.option.Option.{Option};
+ghost use Rattle.pb_lan.specs.declared.step.Place.{Place};
+ghost use Rattle.pb_threads.specs.Wishes.{HasFulfilled};
+ghost use Rattle.pb_threads.specs.declared.gate.Wish.{Wish};
 ghost use Rattle.pb_threads.specs.declared.view.PortView.{PortView};
 ghost use Rattle.pb_threads.specs.declared.view.StationView.{StationView};
 
@@ -75,6 +78,9 @@ pub trait Work: Drop {
     /// What the worker was given.
     ghost given: { Self → Self.Given };
 
+    /// The place's kind and number, by what the worker was given.
+    ghost named: { Self.Given → Place };
+
     /// The property of the place between turns.
     ghost fits: { Self → Type 0 };
 
@@ -89,8 +95,12 @@ pub trait Work: Drop {
     /// The stations that the place has learnt and not forgotten. A place that learns none leaves it out.
     ghost stations_of: { Self → List StationView } = { λ _. [] };
 
+    /// The wishes that the place has fulfilled, in order. A place that fulfils none leaves it out.
+    ghost fulfilled: { Self → List Wish } = { λ _. [] };
+
     /// Returns the place's kind and number.
-    fn place(&self) -> Place;
+    fn place(&self) -> Place
+        ensures { result ≡ named (given self.now) };
 
     /// Returns the view of the local port of this number, 1 to 16, if the place shows one.
     fn shown(&self, port: u8) -> Option<PortView>
@@ -126,14 +136,18 @@ pub trait Work: Drop {
     fn turn(&mut self, moment: Moment) -> Turn
         requires { fits self.old }
         ensures given { given self.new ≡ given self.old }
+        ensures fulfilled { fulfilled self.new ≡ fulfilled self.old }
         ensures fits { fits self.new };
 
-    /// Fulfils a wish in place of a turn. A place without such a port does nothing.
-    fn fulfil(&mut self, _wish: Wish) -> Turn
+    /// Fulfils a wish in place of a turn. The turn is `Done` if and only if the wish is fulfilled: a place without such
+    /// a port does nothing.
+    fn fulfil(&mut self, wish: Wish) -> Turn
         requires { fits self.old }
         ensures given { given self.new ≡ given self.old }
+        ensures fulfilled { HasFulfilled (fulfilled self.old) wish result.status (fulfilled self.new) }
         ensures fits { fits self.new }
     {
+        let _ = wish;
         Turn::IDLE
     }
 
@@ -141,5 +155,6 @@ pub trait Work: Drop {
     fn close(&mut self, moment: Moment, finish: Finish)
         requires { fits self.old }
         ensures given { given self.new ≡ given self.old }
+        ensures fulfilled { fulfilled self.new ≡ fulfilled self.old }
         ensures fits { fits self.new };
 }

@@ -1,5 +1,7 @@
 //! The worker of a place, in a thread of its own.
 
+ghost use Rattle.std.specs.Prelude.{◌≡◌};
+
 use crate::gate::Gate;
 use crate::helping::{Helper, is_ended, own_end};
 use crate::pace::{LONG, MOST_IDLE, Pace, SHORT, TURNS};
@@ -141,7 +143,9 @@ impl Worker {
         owned: &mut Owned<K, T>,
         gate: &G,
         words: &Words,
-    ) -> TurnStatus {
+    ) -> TurnStatus
+        requires { K.gives ≡ G.gives gate.now }
+    {
         let turned = owned.take_turn(rt, gate);
         self.helper.report(owned, gate, words, &turned);
         if self.pace.is_drowsy {
@@ -168,7 +172,9 @@ impl Worker {
         gate: &G,
         words: &Words,
         limits: Limits,
-    ) -> Next {
+    ) -> Next
+        requires { K.gives ≡ G.gives gate.now }
+    {
         for _ in rt.forever() {
             if let Some(finish) = end_of(owned, gate, words, limits, self.pace.is_drowsy) {
                 owned.close(finish);
@@ -201,7 +207,9 @@ impl Worker {
         gate: &G,
         words: &Words,
         limits: Limits,
-    ) -> Next {
+    ) -> Next
+        requires { K.gives ≡ G.gives gate.now }
+    {
         let mut held = slot.held.lock(rt);
         let Some(owned) = &mut *held else {
             return Next::End;

@@ -3,3 +3,4 @@ pub mod ReceiveLemmas
 pub mod RoomLemmas
 pub mod Recorded
 pub mod PortLemmas
+pub mod SettingLemmas

@@ -4,7 +4,6 @@ use Rattle.std.specs.Coded.{Coded, code_by, coded×, coded_list, coded_ℕ}
 use Rattle.std.specs.declared.snapshot.Snapshot.{Snapshot}
 use Rattle.pb_lan.specs.declared.plan.Plan.{Plan}
 use Rattle.pb_threads.proofs.Codes.{coded_plan}
-use Rattle.pb_workers.specs.declared.gift.AccessGift.{AccessGift}
 use Rattle.pb_workers.specs.declared.gift.BridgeGift.{BridgeGift}
 use Rattle.pb_workers.specs.declared.gift.CustomerGift.{CustomerGift}
 use Rattle.pb_workers.specs.declared.gift.LaneGift.{LaneGift}

@@ -2,6 +2,7 @@ pub mod Ports
 pub mod Facts
 pub mod GiftCodes
 pub mod Bridges
+pub mod Settings
 pub mod Stations
 pub mod Workers
 pub mod Recording

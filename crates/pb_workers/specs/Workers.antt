@@ -1,5 +1,5 @@
 -- The workers of places and their rings.
-use Rattle.std.specs.Prelude.{◌≡◌, ℕ, ◌-◌, ◌<◌, ◌≤◌, Bool, true, Option, List, [], map, vec_len, slice_index_or}
+use Rattle.std.specs.Prelude.{◌≡◌, ℕ, ◌-◌, ◌<◌, ◌≤◌, Bool, true, [], map, vec_len, slice_index_or}
 use Rattle.rtrb.specs.Ring.{sent, received as received_over}
 use Rattle.pb_ring.specs.Rings.{shown_at}
 use Rattle.pb_ring.specs.declared.ends.Wiring.{Ghosts}
@@ -7,6 +7,7 @@ use Rattle.pb_ring.specs.declared.sides.Inlets.{Inlets}
 use Rattle.pb_ring.specs.declared.sides.Outlets.{Outlets}
 use Rattle.pb_port.specs.declared.port.Port.{Ghosts as PortGhosts}
 use Rattle.pb_workers.specs.Ports.{KeepsPort, port_frames}
+use Rattle.pb_workers.specs.Settings.{settings}
 use Rattle.pb_workers.specs.declared.access.Access.{Access}
 use Rattle.pb_workers.specs.declared.bridge.BridgeWorker.{BridgeWorker}
 use Rattle.pb_workers.specs.declared.customer.CustomerWorker.{CustomerWorker}
@@ -54,7 +55,7 @@ pub record IsSameLane {X P : Type 0} {W : Ghosts X} (old new : LaneWorker X P W)
   pub losses : new.lane.losses ≡ old.lane.losses
 
 -- a bridge's worker keeps its number, its ports and the numbers of its rings, and its bridge keeps its plan and its
--- number
+-- number and sets no port
 pub record IsSameBridge {X : Type 0} {W : Ghosts X} (old new : BridgeWorker X W) : Type 0 where
   pub number : new.number ≡ old.number
   pub plan : new.bridge.plan ≡ old.bridge.plan
@@ -63,8 +64,10 @@ pub record IsSameBridge {X : Type 0} {W : Ghosts X} (old new : BridgeWorker X W)
   pub count : vec_len new.ins.ends ≡ vec_len old.ins.ends
   pub ins : map (λ i. i.number) new.ins.ends.items ≡ map (λ i. i.number) old.ins.ends.items
   pub outs : map (λ o. o.number) new.outs.ends.items ≡ map (λ o. o.number) old.outs.ends.items
+  pub settings : settings new.bridge.steps ≡ settings old.bridge.steps
 
--- a bridge's worker keeps all of this, and its rings are unchanged
+-- a bridge's worker keeps its number and its ports, its bridge keeps its plan and its number, and its rings are
+-- unchanged
 pub record KeepsRings {X : Type 0} {W : Ghosts X} (old new : BridgeWorker X W) : Type 0 where
   pub number : new.number ≡ old.number
   pub plan : new.bridge.plan ≡ old.bridge.plan

@@ -17,6 +17,7 @@ ghost use Rattle.pb_relay.specs.Standing.{at_start};
 ghost use Rattle.pb_ring.specs.Rings.{shown_at};
 ghost use Rattle.pb_workers.specs.Bridges.{AreUsed};
 ghost use Rattle.pb_workers.specs.Lossless.{refuses_when_full, HasRoomBeside};
+ghost use Rattle.pb_workers.specs.Settings.{settings};
 
 use crate::access::Access;
 use crate::lane::LaneWorker;
@@ -194,7 +195,8 @@ impl<W: Wiring> BridgeWorker<W> {
     ///
     /// `Memory` if an allocation failed, `Limit` if the bridge has taken as many steps as it may.
     pub(crate) fn tick(&mut self) -> Taken
-        ensures { KeepsRings self.old self.new }
+        ensures same { KeepsRings self.old self.new }
+        ensures settings { settings self.new.bridge.steps ≡ settings self.old.bridge.steps }
     {
         self.bridge.tick()?;
         Ok(true)

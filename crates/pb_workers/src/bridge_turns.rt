@@ -1,9 +1,11 @@
 //! The turns of a bridge's worker.
 
 ghost use Rattle.std.specs.Coded.{Unit-prop};
-ghost use Rattle.std.specs.Prelude.{map};
+ghost use Rattle.std.specs.Prelude.{◌≡◌, map};
+ghost use Rattle.pb_lan.specs.declared.step.Place.TheVariants.{Bridge as bridge_place};
 ghost use Rattle.pb_workers.specs.GiftCodes.{bridge_gift};
 ghost use Rattle.pb_workers.specs.Bridges.{view_of};
+ghost use Rattle.pb_workers.specs.Settings.{settings};
 ghost use Rattle.pb_workers.specs.Stations.{stations_of};
 
 use crate::bridge::BridgeWorker;
@@ -16,7 +18,9 @@ use pb_ring::Wiring;
 use pb_threads::{Finish, Moment, PortView, StationView, Turn, TurnStatus, Wish, Work};
 
 /// Returns the turn, marked as one after which roles and states of ports may have changed.
-fn stirred(turn: Turn) -> Turn {
+fn stirred(turn: Turn) -> Turn
+    ensures { result.status ≡ turn.status }
+{
     Turn {
         has_stirred: true,
         ..turn
@@ -39,6 +43,10 @@ impl<W: Wiring> Work for BridgeWorker<W> {
     ghost coded = { bridge_gift };
 
     ghost is_fact = { λ w. Unit-prop };
+
+    ghost named = { λ gift. bridge_place gift.worker };
+
+    ghost fulfilled = { λ w. settings w.bridge.steps };
 
     ghost shown_of = { λ w port. view_of w.bridge port };
 

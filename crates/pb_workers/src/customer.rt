@@ -1,6 +1,7 @@
 //! The worker of a customer port.
 
 ghost use Rattle.std.specs.Prelude.{◌≡◌, ◌++◌, [], true, Ok};
+ghost use Rattle.pb_lan.specs.declared.step.Place.TheVariants.{Customer as customer_place};
 ghost use Rattle.pb_workers.specs.GiftCodes.{customer_gift};
 ghost use Rattle.pb_workers.specs.Facts.{KeepsPort-prop};
 ghost use Rattle.pb_workers.specs.Ports.{port_frames};
@@ -221,6 +222,8 @@ impl<W: Wiring, P: Port> Work for CustomerWorker<W, P> {
 
     ghost is_fact = { λ w. KeepsPort-prop (port_frames P.Port w.was.value) (port_frames P.Port w.port)
         w.access.place.steps w.access.book.last };
+
+    ghost named = { λ gift. customer_place gift.book };
 
     fn place(&self) -> Place {
         Place::Customer(self.access.book.number)

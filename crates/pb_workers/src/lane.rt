@@ -4,6 +4,7 @@ ghost use Rattle.std.specs.Prelude.{◌≡◌, [], true};
 ghost use Rattle.std.specs.Coded.{Unit-prop};
 ghost use Rattle.rtrb.specs.Ring.{sent, received};
 ghost use Rattle.pb_lan.specs.LaneLists.{taken, put};
+ghost use Rattle.pb_lan.specs.declared.step.Place.TheVariants.{Lane as lane_place};
 ghost use Rattle.pb_workers.specs.GiftCodes.{lane_gift};
 ghost use Rattle.pb_workers.specs.Recording.{AreRecorded};
 
@@ -183,6 +184,8 @@ impl<W: Wiring, P: Port> Work for LaneWorker<W, P> {
     ghost coded = { lane_gift };
 
     ghost is_fact = { λ w. Unit-prop };
+
+    ghost named = { λ gift. lane_place gift.number };
 
     fn place(&self) -> Place {
         Place::Lane(self.number)

@@ -1,5 +1,7 @@
 //! The reason why a worker can't take a step that is due.
 
+ghost use Rattle.std.specs.Prelude.{◌≡◌, ◌↔◌, true, Ok};
+
 use pb_frame::Memory;
 use pb_threads::{Turn, TurnStatus};
 
@@ -22,7 +24,9 @@ impl From<Memory> for Refusal {
 pub(crate) type Taken = Result<bool, Refusal>;
 
 /// Returns the status of a turn that took a step or could not.
-fn status_of(taken: Taken) -> TurnStatus {
+fn status_of(taken: Taken) -> TurnStatus
+    ensures { (result ≡ TurnStatus.Done) ↔ (taken ≡ Ok true) }
+{
     match taken {
         Ok(true) => TurnStatus::Done,
         Ok(false) => TurnStatus::Idle,
@@ -32,7 +36,9 @@ fn status_of(taken: Taken) -> TurnStatus {
 }
 
 /// Returns the turn of a step. If the step was taken, `more` is added to what is left to do, and `fewer` subtracted.
-pub(crate) fn turn(taken: Taken, more: u64, fewer: u64) -> Turn {
+pub(crate) fn turn(taken: Taken, more: u64, fewer: u64) -> Turn
+    ensures { (result.status ≡ TurnStatus.Done) ↔ (taken ≡ Ok true) }
+{
     let status = status_of(taken);
     if status == TurnStatus::Done {
         return Turn {

@@ -2,13 +2,14 @@
 
 mod sleeping;
 
-ghost use Rattle.std.specs.Coded.{Unit-prop, coded_ℕ};
+ghost use Rattle.std.specs.Coded.{Unit-prop};
 ghost use Rattle.std.specs.Prelude.{◌==◌, Some, None, if◌then◌else◌};
+ghost use Rattle.pb_threads.proofs.Codes.{coded_place};
 
 use pb_lan::{Limits, Place, PortState, Reason};
 use pb_threads::{
-    Dropped, Finish, Gate, Go, Moment, Places, PortView, Turn, TurnStatus, Wish, Work, Worked,
-    run_all,
+    Dropped, Finish, Gate, Go, Moment, Past, Places, PortView, Turn, TurnStatus, Wish, Work,
+    Worked, run_all,
 };
 use std::alloc::{AllocError, Global};
 use std::sync::atomic::{AtomicU64, Ordering};
@@ -36,15 +37,17 @@ struct Desk {
 }
 
 impl Work for Desk {
-    type Given = u8;
+    type Given = Place;
 
-    ghost given = { λ d. 0 };
+    ghost given = { λ d. d.place };
 
     ghost fits = { λ d. Unit {0} };
 
-    ghost coded = { coded_ℕ };
+    ghost coded = { coded_place };
 
     ghost is_fact = { λ d. Unit-prop };
+
+    ghost named = { λ place. place };
 
     ghost shown_of = { λ d port. if port == 3 then Some d.view else None };
 
@@ -313,7 +316,7 @@ impl Gate for Wishing {
         Go::Go
     }
 
-    fn wish(&self, place: Place, now: u32) -> Option<Wish> {
+    fn wish(&self, place: Place, now: u32, _past: Past<Wish>) -> Option<Wish> {
         if place != Place::Bridge(1) || now == 0 || self.given.swap(1, Ordering::SeqCst) == 1 {
             return None;
         }

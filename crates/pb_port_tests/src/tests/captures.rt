@@ -360,6 +360,8 @@ fn reads_back_a_file(rt: HostRuntime) -> Result<(), Fail> {
 #[test]
 fn laws_of_streams_stand() {
     streams_have_one_reading();
+    inputs_have_a_reading();
     polls_spell_the_reading();
     what_is_written_is_read();
+    what_was_sent_is_read();
 }

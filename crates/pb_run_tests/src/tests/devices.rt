@@ -8,7 +8,7 @@ use super::runs::{LONG, Outer, Setup, Way, ran};
 use super::streams::Broken;
 use pb_frame::Memory;
 use pb_port::PortFault;
-use pb_run::{Ended, Last};
+use pb_run::{Ended, Last, runs_carry_captures};
 use std::alloc::Global;
 use std::sync::Wait;
 use std::test::Fail;
@@ -124,4 +124,9 @@ fn a_failed_read_leaves_the_other_ports(rt: HostRuntime) -> Result<(), Fail> {
         assert_eq!(rt; read(&rt, rt.alloc(), call, entered)?, wanted, "{call}");
     }
     Ok(())
+}
+
+#[test]
+fn the_law_of_captures_holds() {
+    runs_carry_captures();
 }

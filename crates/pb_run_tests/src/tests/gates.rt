@@ -3,7 +3,7 @@
 use super::activity::PortActivity;
 use super::told::slot_of;
 use pb_lan::{Place, PortState};
-use pb_run::{Gate, Go, PortView, Wish};
+use pb_run::{Gate, Go, Past, PortView, Wish};
 use std::alloc::{AllocError, Global};
 use std::sync::Arc;
 use std::sync::atomic::{AtomicU64, Ordering};
@@ -82,7 +82,7 @@ impl Gate for Parting {
         Go::Go
     }
 
-    fn wish(&self, place: Place, _now: u32) -> Option<Wish> {
+    fn wish(&self, place: Place, _now: u32, _past: Past<Wish>) -> Option<Wish> {
         if place != Place::Bridge(1) || self.wished.swap(1, Ordering::SeqCst) == 1 {
             return None;
         }

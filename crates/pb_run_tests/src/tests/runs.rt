@@ -2,7 +2,7 @@
 
 use super::activity::PortActivity;
 use super::draft::Draft;
-use super::explained::{run_counted, run_recorded};
+use super::explained::{run_counted, run_recorded, run_wished};
 use super::frames::{Frames, script_of};
 use super::guests::{Guest, Habit};
 use super::plans::plan_of;
@@ -11,7 +11,7 @@ use super::told::{NOTHING, Told, tell, tell_counted, tell_fault};
 use pb_frame::Memory;
 use pb_lan::{Limits, Plan, plan_is_sound};
 use pb_port::{LengthField, MemoryPort, SocketPort};
-use pb_run::{Gate, Held, KeptRun, Ran, RunFault, run_set};
+use pb_run::{Gate, Held, KeptRun, Ran, RunFault};
 use std::alloc::Global;
 use std::sync::{Arc, Wait};
 use std::thread::Threads;
@@ -185,7 +185,10 @@ fn ran_with<G: Gate, R: Threads + Wait + Clock + Sync>(
             let outcome = run_counted(rt, alloc, plan, ports, gate, limits, false);
             told_of(alloc, outcome)
         }
-        Way::Set => told_of(alloc, run_set(rt, alloc, plan, ports, gate, limits, false)),
+        Way::Set => told_of(
+            alloc,
+            run_wished(rt, alloc, plan, ports, gate, limits, false),
+        ),
     }
 }
 

@@ -1,15 +1,29 @@
-use Rattle.std.proofs.Common.{length, refl, arith, rules}
+use Rattle.std.proofs.Common.{List, ap, length, refl, subst, sym, arith, rules}
+use Rattle.pb_lan.specs.Records.{steps_of}
+use Rattle.pb_lan.specs.declared.step.Place.TheVariants.{Bridge}
+use Rattle.pb_lan.specs.declared.step.Step.{Step}
 use Rattle.pb_run.proofs.Kept.{as_many, accesses_back, run_kept}
-use Rattle.pb_run.proofs.Lawful.{tells_ended}
+use Rattle.pb_run.proofs.Lawful.{all_wished, tells_ended}
+use Rattle.pb_run.specs.Gifts.{given_bridge}
+use Rattle.pb_threads.specs.Wishes.{AreGiven}
+use Rattle.pb_workers.specs.Settings.{settings}
+use Rattle.pb_workers.specs.declared.bridge.BridgeWorker.{BridgeWorker}
 use Rattle.pb_run.proofs.running.run_built.Goals as goal
+
+pub run_all-places-requires-clause-fresh : goal.run_all-places-requires-clause-fresh
+run_all-places-requires-clause-fresh g c lifetimes alive = (
+  λ k d less. refl,
+  λ k d less. refl,
+  λ k d less. ap settings (c.requires.built.unset k d less),
+)
 
 pub apart-ports-requires-clause-room : goal.apart-ports-requires-clause-room
 apart-ports-requires-clause-room g c =
     let many = as_many _ _ _ _ _ c.run_all-places.ensures.customers.0 c.attended-customers.ensures.ports in
     let rooms = c.requires.rooms.parts in (
-      omega (arith, many, c.requires.count, rooms.ports.1),
-      omega (arith, many, c.requires.count, rooms.accesses.1),
-      omega (arith, many, c.requires.count, rooms.lasts.1),
+      omega (arith, many, c.requires.plan.1, rooms.ports.1),
+      omega (arith, many, c.requires.plan.1, rooms.accesses.1),
+      omega (arith, many, c.requires.plan.1, rooms.lasts.1),
     )
 
 pub whether_settled-settled-requires-clause-bridges : goal.whether_settled-settled-requires-clause-bridges
@@ -36,7 +50,19 @@ returns-clause-run g c =
       ended = tells_ended c.args.plan.now c.told_of-counts.result.counts c.apart-ports.result.lasts.items
           c.as_slice-2.result.now c.has_drained.result
           c.ended_by-ended.result c.ended_by-ended.ensures c.has_drained.ensures c.as_slice-2.ensures.value
-          c.requires.sound told.steps.lawful;
+          c.requires.plan.0 told.steps.lawful;
       settled = search rules;
-      count = c.requires.count;
+      count = c.requires.plan.1;
     }
+
+pub returns-clause-wishes : goal.returns-clause-wishes
+returns-clause-wishes g c =
+    let W : Type 0 = BridgeWorker g.row.W.Denot g.W.Wiring in
+    let gives = g.G.Gate.gives c.args.gate.now in
+    let steps : W → List Step = λ b. b.bridge.steps in
+    let plan = c.args.plan.now in
+    let bridges = c.run_all-places.ensures.bridges.0 in
+    λ number. subst (λ (lists : List (List Step)). AreGiven (gives (Bridge number)) (settings (steps_of lists number)))
+    (sym c.told_of-counts.ensures.bridges)
+    (all_wished gives given_bridge steps plan c.run_all-places.result.places.bridges.items
+    (rw bridges c.requires.built.bridges) c.run_all-places.ensures.wishes.2 number)
