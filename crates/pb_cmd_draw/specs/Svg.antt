@@ -1,5 +1,5 @@
 -- A scene as an SVG picture.
-use Rattle.std.specs.Prelude.{ℕ, Bool, List, ◌++◌, Some, None, flat_map, length, codes}
+use Rattle.std.specs.Prelude.{ℕ, Bool, false, List, ◌++◌, Some, None, flat_map, length, codes}
 use Rattle.std.specs.Fmt.{decimal}
 use Rattle.std.specs.declared.option.Option.{Option}
 use Rattle.pb_lan.specs.declared.plan.Plan.{Plan}
@@ -55,3 +55,11 @@ elements_text plan lists scene = parts_text plan lists scene ++ legend_text plan
 -- the picture, with the lists of services at links or without
 abbrev pub svg_text : Plan → Bool → Scene → List ℕ
 svg_text plan lists scene = head_text scene ++ elements_text plan lists scene ++ codes "</g>\n</svg>\n"
+
+-- the parts, with more elements before the names of links
+abbrev pub parts_with : Plan → Scene → List ℕ → List ℕ
+parts_with plan scene more = boxes_text plan scene ++ more ++ flat_map (ends_element plan false) scene.links
+
+-- the picture without lists, with those
+abbrev pub svg_with : Plan → Scene → List ℕ → List ℕ
+svg_with plan scene more = head_text scene ++ parts_with plan scene more ++ legend_text plan scene ++ codes "</g>\n</svg>\n"

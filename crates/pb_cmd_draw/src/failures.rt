@@ -139,7 +139,7 @@ fn down_links(alloc: Global, plan: &Plan, names: &[String]) -> Result<Seq<DownEn
 /// # Errors
 ///
 /// `Memory` if an allocation failed.
-pub(crate) fn failures_of(alloc: Global, plan: &Plan, names: &[String]) -> Result<Failures, Memory>
+pub fn failures_of(alloc: Global, plan: &Plan, names: &[String]) -> Result<Failures, Memory>
     ensures { IfOk result (λ failed. failed ≡ failures_of plan.now names.now) }
 {
     let bridges = down_bridges(alloc, plan, names)?;

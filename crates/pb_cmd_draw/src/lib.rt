@@ -22,10 +22,12 @@ pub use asked::Asked;
 pub use dot::put_dot;
 pub use draw::run_draw;
 pub use end::{DrawEnd, Format};
+pub use failures::failures_of;
 pub use pb_converge::{DownFault, Rest};
 pub use pb_draw_layout::{
     BridgeFacts, BridgeMark, DownEnds, Failures, Key, KeyMark, Lane, LinkFacts, LinkMark,
     LinkState, Point, PortFacts, PortMark, Room, Rooms, Route, Scene, ServiceFacts, ServiceMark,
     Tone, scene_of,
 };
-pub use svg::put_svg;
+pub use svg::{put_svg, put_svg_with};
+pub use svg_links::put_route;

@@ -2,7 +2,7 @@
 
 ghost use Rattle.std.specs.Prelude.{◌≡◌, ◌++◌, flat_map, string_bytes, OnOk};
 ghost use Rattle.pb_cmd_draw.specs.Svg.{opening_text, counts_text, ground_text, group_text, head_text, parts_text};
-ghost use Rattle.pb_cmd_draw.specs.Svg.{boxes_text, elements_text, legend_text, svg_text};
+ghost use Rattle.pb_cmd_draw.specs.Svg.{boxes_text, elements_text, legend_text, parts_with, svg_text, svg_with};
 ghost use Rattle.pb_cmd_draw.specs.SvgBoxes.{bridge_element, port_element, service_element};
 ghost use Rattle.pb_cmd_draw.specs.SvgKeys.{key_element};
 ghost use Rattle.pb_cmd_draw.specs.SvgLinks.{link_element, ends_element};
@@ -218,6 +218,43 @@ pub fn put_svg(
 {
     put_head(out, scene)?;
     put_elements(alloc, out, plan, lists, scene)?;
+    out.push_str("</g>\n</svg>\n")?;
+    Ok(())
+}
+
+/// Appends the elements of bridges, links and customer ports, with more elements before the names of links.
+fn put_parts_with(
+    alloc: Global,
+    out: &mut String,
+    plan: &Plan,
+    scene: &Scene,
+    more: &str,
+) -> Result<(), Memory>
+    ensures { OnOk result (string_bytes out.new ≡ string_bytes out.old ++ parts_with plan.now scene.now more.now) }
+{
+    put_boxes(alloc, out, plan, scene)?;
+    out.push_str(more)?;
+    put_all_ends(out, plan, false, scene.links.as_slice())
+}
+
+/// Appends a scene of a plan as a self-contained SVG picture, as [`put_svg`] does without lists, with more elements:
+/// the text `more` comes after the boxes of bridges and before the names of links.
+///
+/// # Errors
+///
+/// `Memory` if an allocation failed. A part of the picture may have been appended then.
+pub fn put_svg_with(
+    alloc: Global,
+    out: &mut String,
+    plan: &Plan,
+    scene: &Scene,
+    more: &str,
+) -> Result<(), Memory>
+    ensures { OnOk result (string_bytes out.new ≡ string_bytes out.old ++ svg_with plan.now scene.now more.now) }
+{
+    put_head(out, scene)?;
+    put_parts_with(alloc, out, plan, scene, more)?;
+    put_legend(out, plan, scene)?;
     out.push_str("</g>\n</svg>\n")?;
     Ok(())
 }

@@ -38,8 +38,12 @@ fn put_curve(out: &mut String, x: u32, bend: u32, to: Point) -> Result<(), Memor
     Ok(())
 }
 
-/// Appends the path of a link.
-fn put_route(out: &mut String, route: &Route) -> Result<(), Memory>
+/// Appends the path of a link with this route, as the value of the attribute `d` of an SVG path. It begins at end `a`.
+///
+/// # Errors
+///
+/// `Memory` if an allocation failed. A part of the path may have been appended then.
+pub fn put_route(out: &mut String, route: &Route) -> Result<(), Memory>
     ensures { OnOk result (string_bytes out.new ≡ string_bytes out.old ++ route_text route.now) }
 {
     let (x, y) = (route.a.x, route.a.y);

@@ -17,6 +17,7 @@ use Rattle.pb_cmd_trace.specs.declared.frame.Fate.{Fate}
 use Rattle.pb_cmd_trace.specs.declared.frame.Fate.TheVariants.{Ended as fate_ended, GoesRound as fate_round}
 use Rattle.pb_cmd_trace.specs.declared.frame.Fate.TheVariants.{NoPort as fate_no_port, NoFrame as fate_no_frame}
 use Rattle.pb_cmd_trace.specs.declared.journey.Journey.TheVariants.{Told}
+use Rattle.pb_cmd_trace.specs.declared.lines.TraceLine.{TraceLine}
 use Rattle.pb_cmd_trace.specs.declared.round.FrameId.{FrameId}
 
 -- a plan with any customer port has a first one
@@ -26,7 +27,7 @@ first_there [] zero h = cc
 first_there [] (suc n) h = cc
 first_there (c ∷ customers) number h = refl
 
-frame_port : (plan : Plan) (port : ℕ) (frame : List ℕ) (fate : Fate) (old new : NetView) (text : List ℕ)
+frame_port : (plan : Plan) (port : ℕ) (frame : List ℕ) (fate : Fate) (old new : NetView) (text : List TraceLine)
     → (fate ≡ fate_no_port → ⊥) → AnswersFrame plan port frame fate old new text
     → has_place old.plan (Customer 1) ≡ true
 frame_port plan port frame fate old new text there (followed polled h f) =
@@ -35,14 +36,14 @@ frame_port plan port frame fate old new text there (waits is h t) = first_there 
 frame_port plan port frame fate old new text there (absent is h t) = absurd (there is)
 
 -- a network that a frame has entered has a customer port
-entry_port : (plan : Plan) (entry : Entry) (fate : Fate) (old new : NetView) (text : List ℕ)
+entry_port : (plan : Plan) (entry : Entry) (fate : Fate) (old new : NetView) (text : List TraceLine)
     → (fate ≡ fate_no_port → ⊥) → (fate ≡ fate_no_frame → ⊥) → AnswersEntry plan entry fate old new text
     → has_place old.plan (Customer 1) ≡ true
 entry_port plan entry fate old new text there given (sent frame s h) =
     frame_port plan (port_named plan (string_bytes entry.port)) frame fate old new text there h
 entry_port plan entry fate old new text there given (unsent is none same t) = absurd (given is)
 
-stories_port : (plan : Plan) (entries : List Entry) (old new : NetView) (text : List ℕ)
+stories_port : (plan : Plan) (entries : List Entry) (old new : NetView) (text : List TraceLine)
     → AreStories plan entries old new text → (new ≡ old) ⊎ (has_place old.plan (Customer 1) ≡ true)
 stories_port plan [] old new text (same, none) = inl same
 stories_port plan (entry ∷ entries) old new text (between, front, back, first, others, is) =
@@ -54,7 +55,7 @@ round_port old between (inl same) there = subst (λ n. has_place n.plan (Custome
 round_port old between (inr first) there = first
 
 -- a trace without frames leaves the network as it was, and any other is of a network with a customer port
-journey_port : (plan : Plan) (entries : List Entry) (round : Option FrameId) (old new : NetView) (text : List ℕ)
+journey_port : (plan : Plan) (entries : List Entry) (round : Option FrameId) (old new : NetView) (text : List TraceLine)
     → HasJourneyed plan entries (Told round) old new text → (new ≡ old) ⊎ (has_place old.plan (Customer 1) ≡ true)
 journey_port plan entries None old new text h = stories_port plan entries old new text h
 journey_port plan entries (Some frame) old new text h =
@@ -70,7 +71,8 @@ lawful_by plan old new planned shown last (inr there) =
     subst (λ p. IsLawfulRecord spanning_tree p old.rec) planned (shown there)
 
 -- the record at which the frames begin is lawful, for the contract of put_stories
-pub start_lawful : (plan : Plan) (entries : List Entry) (round : Option FrameId) (old new : NetView) (text : List ℕ)
+pub start_lawful : (plan : Plan) (entries : List Entry) (round : Option FrameId) (old new : NetView)
+    (text : List TraceLine)
     → old.plan ≡ plan → (has_place old.plan (Customer 1) ≡ true → IsLawfulRecord spanning_tree old.plan old.rec)
     → IsLawfulRecord spanning_tree plan new.rec → HasJourneyed plan entries (Told round) old new text
     → IsLawfulRecord spanning_tree plan old.rec

@@ -11,13 +11,13 @@ use Rattle.pb_lan.specs.declared.step.Place.TheVariants.{Customer}
 use Rattle.pb_net.specs.Answers.{NetView, IsAnswer}
 use Rattle.pb_net.specs.declared.did.Did.TheVariants.{Done}
 use Rattle.pb_cmd_step.specs.Steps.{HasGrown}
-use Rattle.pb_names.proofs.TextLemmas.{join_three}
 use Rattle.pb_names.specs.Numbers.{port_named}
 use Rattle.pb_cmd_trace.specs.Stories.{AnswersEntry, sent, unsent, AnswersFrame, followed, waits, absent, AreStories}
 use Rattle.pb_cmd_trace.specs.Stories.{IsRoundStory, IsSent, IsConclusion, IsEntry, IsFollowed}
 use Rattle.pb_report.specs.PlanFiles.{IsToldBy}
 use Rattle.pb_converge.specs.Falls.{HaveFallen}
-use Rattle.pb_cmd_trace.specs.Traces.{HasTraced, HasTold, EndsTrace, AnswersTrace}
+use Rattle.pb_cmd_trace.specs.Traces.{HasTraced, HasTold}
+use Rattle.pb_cmd_trace.specs.Tracings.{EndsTracing, IsTracing}
 use Rattle.pb_cmd_trace.specs.Walks.{HasWalked}
 use Rattle.pb_cmd_trace.specs.declared.asked.Asked.{Asked}
 use Rattle.pb_cmd_trace.specs.declared.end.TraceEnd.{TraceEnd}
@@ -26,13 +26,17 @@ use Rattle.pb_cmd_trace.specs.declared.entry.Entry.{Entry}
 use Rattle.pb_cmd_trace.specs.declared.frame.Fate.{Fate}
 use Rattle.pb_cmd_trace.specs.declared.frame.Fate.TheVariants.{Ended as fate_ended, GoesRound as fate_round}
 use Rattle.pb_cmd_trace.specs.declared.frame.Fate.TheVariants.{NoPort as fate_no_port, NoFrame as fate_no_frame}
+use Rattle.pb_cmd_trace.specs.declared.lines.TraceLine.{TraceLine}
 use Rattle.pb_cmd_trace.specs.declared.onward.Onward.TheVariants.{Feed}
 use Rattle.pb_cmd_trace.specs.declared.round.FrameId.{FrameId}
+use Rattle.pb_cmd_trace.specs.declared.tracing.Tracing.{Tracing}
+use Rattle.pb_cmd_trace.specs.declared.tracing.Tracing.TheVariants.{Told as Traced, NoPort as LacksPortAt}
+use Rattle.pb_cmd_trace.specs.declared.tracing.Tracing.TheVariants.{NoFrame as LacksFrameAt, NoDown as IsNoDown}
 use Rattle.pb_cmd_trace.specs.declared.walk.Course.{Course}
 use Rattle.pb_cmd_trace.specs.declared.walk.Course.TheVariants.{Ended, GoesRound}
 
 -- one more trace after several, for the loop of travel
-stories-snoc : (plan : Plan) (entries : List Entry) (entry : Entry) (old mid new : NetView) (text more : List ℕ)
+stories-snoc : (plan : Plan) (entries : List Entry) (entry : Entry) (old mid new : NetView) (text more : List TraceLine)
     → AreStories plan entries old mid text → AnswersEntry plan entry fate_ended mid new more
     → AreStories plan (entries ++ entry ∷ []) old new (text ++ more)
 stories-snoc plan [] entry old mid new text more (same, none) here = (
@@ -54,10 +58,10 @@ stories-snoc plan (e ∷ entries) entry old mid new text more (between, front, b
 )
 
 pub stories-more : (plan : Plan) (entries : List Entry) (k : ℕ) (entry : Entry) (old mid new : NetView)
-    (first text more out out' : List ℕ) → k < length entries → entry ≡ get_or entries k entry
+    (first text more out out' : List TraceLine) → k < length entries → entry ≡ get_or entries k entry
     → out ≡ first ++ text → AreStories plan (take k entries) old mid text → out' ≡ out ++ more
     → AnswersEntry plan entry fate_ended mid new more
-    → (all : List ℕ) × (out' ≡ first ++ all) × AreStories plan (take (k + 1) entries) old new all
+    → (all : List TraceLine) × (out' ≡ first ++ all) × AreStories plan (take (k + 1) entries) old new all
 stories-more plan entries k entry old mid new first text more out out' within is so_far stories out_is here = (
   text ++ more,
   out_is ∙ ap (λ z. z ++ more) so_far ∙ append_assoc first text more,
@@ -66,17 +70,24 @@ stories-more plan entries k entry old mid new first text more out out' within is
       (stories-snoc plan (take k entries) entry old mid new text more stories here),
 )
 
+-- three lists of reports after one another
+join_lines : (out head body rest one two out' : List TraceLine) → one ≡ out ++ head → two ≡ one ++ body
+    → out' ≡ two ++ rest → out' ≡ out ++ (head ++ body ++ rest)
+join_lines out head body rest one two out' e f g =
+    g ∙ ap (λ z. z ++ rest) (f ∙ ap (λ z. z ++ body) e ∙ append_assoc out head body)
+    ∙ append_assoc out (head ++ body) rest
+
 -- entry, walk and conclusion make up the trace of a frame, for the contract of follow
 pub follow_joined : (plan : Plan) (port number : ℕ) (old walked new : NetView) (course : Course) (fate : Fate)
-    (head body rest out one two out' : List ℕ)
-    → IsEntry plan port number old head → HasWalked plan (Feed port ∷ []) course old walked body
+    (head body rest out one two out' : List TraceLine)
+    → IsEntry port number old head → HasWalked plan (Feed port ∷ []) course old walked body
     → IsConclusion course fate number walked new rest
     → one ≡ out ++ head → two ≡ one ++ body → out' ≡ two ++ rest
-    → (text : List ℕ) × (out' ≡ out ++ text) × IsFollowed plan port fate old new text
+    → (text : List TraceLine) × (out' ≡ out ++ text) × IsFollowed plan port fate old new text
 follow_joined plan port number old walked new course fate head body rest out one two out' entry walk conclusion e f g
     = (
       head ++ body ++ rest,
-      join_three out head body rest one two out' e f g,
+      join_lines out head body rest one two out' e f g,
       record {
         number = number;
         head = head;
@@ -87,13 +98,13 @@ follow_joined plan port number old walked new course fate head body rest out one
         walk = walk;
         rest = rest;
         conclusion = conclusion;
-        text_is = refl;
+        lines_are = refl;
       },
     )
 
 -- the frame was injected before it was followed, for the contract of trace_frame
 pub frame_followed : (plan : Plan) (port : ℕ) (frame : List ℕ) (fate : Fate) (place : Place)
-    (old polled new : NetView) (text : List ℕ)
+    (old polled new : NetView) (text : List TraceLine)
     → IsAnswer old (Poll port frame) (Ok (Done place)) polled → IsFollowed plan port fate polled new text
     → AnswersFrame plan port frame fate old new text
 frame_followed plan port frame fate place old polled new text h f =
@@ -109,7 +120,7 @@ pub port_grew : (port : ℕ) (frame : List ℕ) (place : Place) (old new : NetVi
 port_grew port frame place old new h = (old.rec, h.3.0, h.3.2)
 
 -- a walk ends with a frame that went as far as it goes or is in a loop, so no port and no frame is missing
-not_lacking : (course : Course) (fate : Fate) (number : ℕ) (walked new : NetView) (rest : List ℕ)
+not_lacking : (course : Course) (fate : Fate) (number : ℕ) (walked new : NetView) (rest : List TraceLine)
     → IsConclusion course fate number walked new rest
     → (fate ≡ fate_no_port → ⊥) × (fate ≡ fate_no_frame → ⊥)
 not_lacking Ended fate number walked new rest c = (
@@ -124,7 +135,7 @@ not_lacking GoesRound fate number walked new rest c = (
 )
 
 -- the fate NoPort shows that the plan lacks the port
-no_port : (plan : Plan) (port : ℕ) (frame : List ℕ) (fate : Fate) (old new : NetView) (text : List ℕ)
+no_port : (plan : Plan) (port : ℕ) (frame : List ℕ) (fate : Fate) (old new : NetView) (text : List TraceLine)
     → fate ≡ fate_no_port → AnswersFrame plan port frame fate old new text
     → has_place old.plan (Customer port) ≡ false
 no_port plan port frame fate old new text e (followed polled h f) =
@@ -132,7 +143,7 @@ no_port plan port frame fate old new text e (followed polled h f) =
 no_port plan port frame fate old new text e (waits is h t) = let f : fate_ended ≡ fate_no_port = sym is ∙ e in cc
 no_port plan port frame fate old new text e (absent is h t) = h.0
 
-pub entry_lacks_port : (plan : Plan) (entry : Entry) (old new : NetView) (text : List ℕ) → old.plan ≡ plan
+pub entry_lacks_port : (plan : Plan) (entry : Entry) (old new : NetView) (text : List TraceLine) → old.plan ≡ plan
     → AnswersEntry plan entry fate_no_port old new text
     → has_place plan (Customer (port_named plan (string_bytes entry.port))) ≡ false
 entry_lacks_port plan entry old new text e (sent frame s h) =
@@ -141,14 +152,14 @@ entry_lacks_port plan entry old new text e (sent frame s h) =
 entry_lacks_port plan entry old new text e (unsent is none same t) = cc
 
 -- the digits of an injected frame are a frame, so the fate NoFrame does not come
-is_a_frame : (plan : Plan) (port : ℕ) (frame : List ℕ) (fate : Fate) (old new : NetView) (text : List ℕ)
+is_a_frame : (plan : Plan) (port : ℕ) (frame : List ℕ) (fate : Fate) (old new : NetView) (text : List TraceLine)
     → fate ≡ fate_no_frame → AnswersFrame plan port frame fate old new text → ⊥
 is_a_frame plan port frame fate old new text e (followed polled h f) =
     (not_lacking f.course fate f.number f.walked new f.rest f.conclusion).1 e
 is_a_frame plan port frame fate old new text e (waits is h t) = let f : fate_ended ≡ fate_no_frame = sym is ∙ e in cc
 is_a_frame plan port frame fate old new text e (absent is h t) = let f : fate_no_port ≡ fate_no_frame = sym is ∙ e in cc
 
-pub entry_is_none : (plan : Plan) (entry : Entry) (old new : NetView) (text : List ℕ)
+pub entry_is_none : (plan : Plan) (entry : Entry) (old new : NetView) (text : List TraceLine)
     → AnswersEntry plan entry fate_no_frame old new text → (frame : List ℕ) → IsSent entry frame → ⊥
 entry_is_none plan entry old new text (sent given s h) = λ frame is. is_a_frame plan
     (port_named plan (string_bytes entry.port)) given fate_no_frame old new text refl h
@@ -156,10 +167,11 @@ entry_is_none plan entry old new text (unsent is none same t) = none
 
 -- a frame in a loop ends the traces, for the loop of travel
 pub round_told : (plan : Plan) (entries : List Entry) (k : ℕ) (entry : Entry) (frame : FrameId)
-    (old mid new : NetView) (first text more out out' : List ℕ) → k < length entries → entry ≡ get_or entries k entry
+    (old mid new : NetView) (first text more out out' : List TraceLine) → k < length entries
+    → entry ≡ get_or entries k entry
     → out ≡ first ++ text → AreStories plan (take k entries) old mid text → out' ≡ out ++ more
     → AnswersEntry plan entry (fate_round frame.number) mid new more
-    → frame.port ≡ port_named plan (string_bytes entry.port) → (all : List ℕ) × (out' ≡ first ++ all)
+    → frame.port ≡ port_named plan (string_bytes entry.port) → (all : List TraceLine) × (out' ≡ first ++ all)
     × IsRoundStory plan entries frame old new all
 round_told plan entries k entry frame old mid new first text more out out' within is so_far stories out_is here port = (
   text ++ more,
@@ -175,18 +187,18 @@ round_told plan entries k entry frame old mid new first text more out out' withi
     back = more;
     story = here;
     port = port;
-    text_is = refl;
+    lines_are = refl;
   },
 )
 
--- the traces after what the names disable was disabled, for put_trace
-pub fallen_trace : (plan : Plan) (asked : Asked) (end : TraceEnd) (fallen : NetView) (text : List ℕ)
-    → HaveFallen plan asked.downs.now fallen → EndsTrace plan asked end fallen text → AnswersTrace plan asked end text
-fallen_trace plan asked Told fallen text falls trace = record { fallen = fallen; falls = falls; trace = trace }
-fallen_trace plan asked Refused fallen text falls none = none
-fallen_trace plan asked (NoPort index) fallen text falls lacks = lacks
-fallen_trace plan asked (NoFrame index) fallen text falls lacks = lacks
-fallen_trace plan asked (NoDown fault) fallen text falls none = absurd none
+-- the traces after what the names disable was disabled, for trace_plan
+pub fallen_trace : (plan : Plan) (asked : Asked) (end : Tracing) (fallen : NetView)
+    → HaveFallen plan asked.downs.now fallen → EndsTracing plan asked fallen end → IsTracing plan asked end
+fallen_trace plan asked (Traced report) fallen falls traced =
+    record { fallen = fallen; falls = falls; traced = traced }
+fallen_trace plan asked (LacksPortAt index) fallen falls lacks = lacks
+fallen_trace plan asked (LacksFrameAt index) fallen falls lacks = lacks
+fallen_trace plan asked (IsNoDown fault) fallen falls none = absurd none
 
 -- what the command has written for the plan of a file, for the contract of run_trace
 pub told_of : (file : List ℕ) (plan : Plan) (asked : Asked) (end : TraceEnd) (before after : Option (List ℕ))

@@ -2,7 +2,9 @@ pub mod Places
 pub mod Onwards
 pub mod Stations
 pub mod Tellings
+pub mod Lines
 pub mod Walks
 pub mod Stories
 pub mod Summaries
+pub mod Tracings
 pub mod Traces

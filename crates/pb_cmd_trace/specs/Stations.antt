@@ -12,6 +12,8 @@ use Rattle.pb_lan.specs.declared.plan.CustomerPlan.{CustomerPlan}
 use Rattle.pb_lan.specs.declared.step.Step.{Step}
 use Rattle.pb_lan.specs.declared.step.Step.TheVariants.{Receive}
 use Rattle.pb_names.specs.Places.{customer_at}
+use Rattle.pb_cmd_trace.specs.declared.onward.Onward.{Onward}
+use Rattle.pb_cmd_trace.specs.declared.onward.Onward.TheVariants.{Receive as Receives}
 
 -- the VID of a received frame: that of the customer port's service, or of the frame's own tag
 abbrev pub vid_by : Plan → Option CustomerPlan → List ℕ → Option ℕ
@@ -40,3 +42,13 @@ is_shown plan bridge steps mac (Some vid) = list_any (shows plan bridge vid mac)
 -- the frame is for one station, and the bridge has learnt it by one of these steps
 abbrev pub is_known : Plan → ℕ → List Step → ℕ → List ℕ → Bool
 is_known plan bridge steps port wire = not (is_group (dst_of wire)) && is_shown plan bridge steps (dst_of wire) (came_as plan bridge port wire)
+
+-- a bridge received the frame of the step at a port, and had learnt the station of its destination
+abbrev pub known_by : Plan → ℕ → List Step → ℕ → Step → Bool
+known_by plan bridge steps port (Receive at item learnt outcome moved) = is_known plan bridge steps port item.wire
+known_by plan bridge steps port _ = false
+
+-- so it did by the step of the event, which is the last one of its place
+abbrev pub known_at : Plan → List Step → Onward → Step → Bool
+known_at plan steps (Receives bridge port) step = known_by plan bridge steps port step
+known_at plan steps _ step = false

@@ -1,5 +1,5 @@
 -- The lines of a frame's steps.
-use Rattle.std.specs.Prelude.{ℕ, zero, suc, ◌+◌, ◌/◌, ◌%◌, min, List, [], ◌∷◌, ◌++◌, Some, None, take, drop, length, codes, nat_lt, ◌==◌, if◌then◌else◌}
+use Rattle.std.specs.Prelude.{ℕ, Bool, zero, suc, ◌+◌, ◌/◌, ◌%◌, min, List, [], ◌∷◌, ◌++◌, Some, None, take, drop, length, codes, nat_lt, ◌==◌, if◌then◌else◌}
 use Rattle.std.specs.Fmt.{decimal}
 use Rattle.std.specs.declared.option.Option.{Option}
 use Rattle.pb_frame.specs.Hex.{hex_text}
@@ -20,7 +20,6 @@ use Rattle.pb_names.specs.Names.{bridge_name, link_name, port_name}
 use Rattle.pb_names.specs.Places.{customer_at}
 use Rattle.pb_step_script.specs.Answers.{step_line}
 use Rattle.pb_cmd_trace.specs.Places.{name_of_vid, neighbour}
-use Rattle.pb_cmd_trace.specs.Stations.{is_known}
 use Rattle.pb_cmd_trace.specs.declared.onward.Onward.{Onward}
 use Rattle.pb_cmd_trace.specs.declared.onward.Onward.TheVariants.{Feed, Deliver, Receive, Transmit, Take, Put}
 
@@ -83,23 +82,23 @@ learnt_words (Some Full) = codes ", table full"
 learnt_words (Some Group) = codes ", source is a group address"
 learnt_words (Some Memory) = codes ", source not learnt"
 
--- why a relayed frame is sent at these ports; without a port it is dropped, and the reason follows
-abbrev pub way_word : Plan → ℕ → List Step → ℕ → List ℕ → List ℕ → List ℕ
-way_word plan bridge steps port wire chosen =
-    if length chosen == 0 then [] else (if is_known plan bridge steps port wire then codes ", known" else codes ", flooded")
+-- why a relayed frame, whose station is known or not, is sent at these ports; without a port it is dropped, and the reason
+-- follows
+abbrev pub way_word : Bool → List ℕ → List ℕ
+way_word known chosen = if length chosen == 0 then [] else (if known then codes ", known" else codes ", flooded")
 
 -- why a received frame is sent at its ports
-abbrev pub way_words : Plan → ℕ → List Step → ℕ → List ℕ → Outcome → List ℕ
-way_words plan bridge steps port wire (Relayed chosen refused) = way_word plan bridge steps port wire chosen
-way_words plan bridge steps port wire (Filtered reason) = []
-way_words plan bridge steps port wire Heard = []
+abbrev pub way_words : Bool → Outcome → List ℕ
+way_words known (Relayed chosen refused) = way_word known chosen
+way_words known (Filtered reason) = []
+way_words known Heard = []
 
 -- where a bridge received a frame, its service and priority, what was learnt, and why the frame is sent where it is
-abbrev pub receipt_words : Plan → ℕ → ℕ → List Step → Step → List ℕ
-receipt_words plan bridge port steps (Received at item learnt outcome moved) =
+abbrev pub receipt_words : Plan → ℕ → ℕ → Bool → Step → List ℕ
+receipt_words plan bridge port known (Received at item learnt outcome moved) =
     bridge_name plan bridge ++ codes " " ++ decimal port ++ codes " from " ++ neighbour plan bridge port
-    ++ class_words plan bridge port item.wire ++ learnt_words learnt ++ way_words plan bridge steps port item.wire outcome
-receipt_words plan bridge port steps _ = []
+    ++ class_words plan bridge port item.wire ++ learnt_words learnt ++ way_words known outcome
+receipt_words plan bridge port known _ = []
 
 -- whether the sending bridge added the tag: the first bridge does
 abbrev pub added_word : ℕ → List ℕ
@@ -146,9 +145,9 @@ result_line plan bridge (Received port item learnt outcome moved) =
 result_line plan bridge step = step_line plan (Bridge bridge) step
 
 -- the line of a bridge that received a frame
-abbrev pub receiving_line : Plan → ℕ → ℕ → List Step → Step → List ℕ
-receiving_line plan bridge port steps step =
-    indent (hops_of step) ++ receipt_words plan bridge port steps step ++ codes ": " ++ result_line plan bridge step
+abbrev pub receiving_line : Plan → ℕ → ℕ → Bool → Step → List ℕ
+receiving_line plan bridge port known step =
+    indent (hops_of step) ++ receipt_words plan bridge port known step ++ codes ": " ++ result_line plan bridge step
 
 -- the line of a bridge that sent a frame
 abbrev pub transmission_line : Plan → ℕ → ℕ → Step → List ℕ
@@ -162,14 +161,14 @@ taking_line plan lane step = indent (hops_of step) ++ lane_words plan lane ++ co
 abbrev pub delivery_line : Plan → ℕ → Step → List ℕ
 delivery_line plan port step = indent (hops_of step) ++ port_name plan port ++ codes ": " ++ step_line plan (Customer port) step
 
--- the line of a step, which is the last one of its place; a Feed and a Put have no line
-abbrev pub told : Plan → List Step → Onward → Step → List ℕ
-told plan steps (Feed port) step = []
-told plan steps (Put lane) step = []
-told plan steps (Deliver port) step = delivery_line plan port step
-told plan steps (Receive bridge port) step = receiving_line plan bridge port steps step
-told plan steps (Transmit bridge port) step = transmission_line plan bridge port step
-told plan steps (Take lane) step = taking_line plan lane step
+-- the line of a step with a frame, whose station is known or not; a Feed and a Put have no line
+abbrev pub told : Plan → Bool → Onward → Step → List ℕ
+told plan known (Feed port) step = []
+told plan known (Put lane) step = []
+told plan known (Deliver port) step = delivery_line plan port step
+told plan known (Receive bridge port) step = receiving_line plan bridge port known step
+told plan known (Transmit bridge port) step = transmission_line plan bridge port step
+told plan known (Take lane) step = taking_line plan lane step
 
 -- the line of an injected frame
 abbrev pub entry_line : Plan → ℕ → Step → List ℕ

@@ -1,58 +1,43 @@
 -- The command: frames are injected one after the other, and the lines show where each goes.
-use Rattle.std.specs.Prelude.{◌≡◌, ℕ, true, List, ◌++◌, Option}
+use Rattle.std.specs.Prelude.{◌≡◌, ℕ, true, List, [], ◌++◌, Option, Some, None, flat_map}
 use Rattle.std.specs.Io.KnownBytes.{Appends, Keeps}
 use Rattle.pb_converge.specs.Drives.{ReachesLimit}
-use Rattle.pb_converge.specs.Enough.{HasEnoughMemory}
-use Rattle.pb_converge.specs.Falls.{HaveFallen, IsRefused, fresh_by}
-use Rattle.pb_lan.specs.Records.{IsLawfulRecord}
+use Rattle.pb_converge.specs.Falls.{IsRefused, fresh_by}
+use Rattle.pb_converge.specs.Rests.{rest_line}
+use Rattle.pb_converge.specs.declared.rest.Rest.{Rest}
 use Rattle.pb_lan.specs.declared.plan.Plan.{Plan}
 use Rattle.pb_lan.specs.declared.record.Record.{Record}
-use Rattle.pb_net.specs.Answers.{NetView}
-use Rattle.pb_relay.specs.Protocol.{spanning_tree}
 use Rattle.pb_report.specs.PlanFiles.{IsToldBy}
 use Rattle.pb_report.specs.Refusals.{PrintsRefusal}
-use Rattle.pb_cmd_trace.specs.Stories.{HasBegun, HasJourneyed, LacksPort, LacksFrame}
+use Rattle.pb_cmd_trace.specs.Lines.{line_text}
+use Rattle.pb_cmd_trace.specs.Stories.{LacksPort, LacksFrame}
 use Rattle.pb_cmd_trace.specs.Summaries.{round_line, summary_line}
+use Rattle.pb_cmd_trace.specs.Tracings.{IsReport}
 use Rattle.pb_cmd_trace.specs.declared.asked.Asked.{Asked}
 use Rattle.pb_cmd_trace.specs.declared.end.TraceEnd.{TraceEnd}
 use Rattle.pb_cmd_trace.specs.declared.end.TraceEnd.TheVariants.{Told, Refused, NoPort, NoFrame, NoDown}
-use Rattle.pb_cmd_trace.specs.declared.journey.Journey.TheVariants.{Told as journey_told}
 use Rattle.pb_cmd_trace.specs.declared.round.FrameId.{FrameId}
+use Rattle.pb_cmd_trace.specs.declared.tracing.TraceReport.{TraceReport}
 
 -- the last lines
 abbrev pub end_lines : Plan → Record → Option FrameId → List ℕ
 end_lines plan rec round = round_line plan rec round ++ summary_line plan rec
 
--- The bridges converge if that is requested, then come the lines of each frame, then the last lines. The record before
--- the first frame and the one that the last lines count are lawful. No allocation failed in the latter, which has all
--- steps.
-pub record IsTraceFrom (plan : Plan) (asked : Asked) (start : NetView) (text : List ℕ) : Type 0 where
-  pub head : List ℕ
-  pub rested : NetView
-  pub begun : HasBegun asked.settle start rested head
-  pub planned : rested.plan ≡ plan
-  pub lawful : IsLawfulRecord spanning_tree plan rested.rec
-  pub round : Option FrameId
-  pub last : NetView
-  pub body : List ℕ
-  pub stories : HasJourneyed plan asked.entries.now (journey_told round) rested last body
-  pub counted : IsLawfulRecord spanning_tree plan last.rec
-  pub enough : HasEnoughMemory last.rec
-  pub text_is : text ≡ head ++ body ++ end_lines plan last.rec round
+-- whether the bridges converged first, if that was requested
+abbrev pub head_text : Option Rest → List ℕ
+head_text None = []
+head_text (Some rest) = rest_line rest
 
--- that text, or what is missing
-abbrev pub EndsTrace : Plan → Asked → TraceEnd → NetView → List ℕ → Type 0
-EndsTrace plan asked Told start text = IsTraceFrom plan asked start text
-EndsTrace plan asked Refused start text = ⊥
-EndsTrace plan asked (NoPort index) start text = LacksPort plan asked.entries.now index
-EndsTrace plan asked (NoFrame index) start text = LacksFrame asked.entries.now index
-EndsTrace plan asked (NoDown fault) start text = ⊥
+-- whether the bridges converged, the lines of the reports, and the last lines
+abbrev pub trace_text : Plan → TraceReport → List ℕ
+trace_text plan report =
+    head_text report.rest ++ flat_map (line_text plan) report.lines ++ end_lines plan report.record report.round
 
--- what the names disable is disabled first
+-- the text of a trace in the network of the plan
 pub record IsTrace (plan : Plan) (asked : Asked) (text : List ℕ) : Type 0 where
-  pub fallen : NetView
-  pub falls : HaveFallen plan asked.downs.now fallen
-  pub trace : IsTraceFrom plan asked fallen text
+  pub report : TraceReport
+  pub traced : IsReport plan asked report
+  pub text_is : text ≡ trace_text plan report
 
 -- that text, or what is missing or refused
 abbrev pub AnswersTrace : Plan → Asked → TraceEnd → List ℕ → Type 0

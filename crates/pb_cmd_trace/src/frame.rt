@@ -1,22 +1,22 @@
 //! The trace of one frame.
 
-ghost use Rattle.std.specs.Prelude.{◌≡◌, ◌++◌, List, ℕ, true, string_bytes, IfOk, IfErr, OnOk};
+ghost use Rattle.std.specs.Prelude.{◌≡◌, ◌++◌, ◌∷◌, [], List, ℕ, true, IfOk, IfErr, OnOk};
 ghost use Rattle.pb_lan.specs.Events.{has_place};
 ghost use Rattle.pb_lan.specs.Plans.{IsSound};
 ghost use Rattle.pb_lan.specs.declared.step.Place.TheVariants.{Customer};
 ghost use Rattle.pb_converge.specs.Drives.{HasDrained, IsCaused};
 ghost use Rattle.pb_cmd_step.specs.Steps.{HasGrown};
-ghost use Rattle.pb_cmd_trace.specs.Stories.{AnswersFrame, IsConclusion, IsEntry, IsFollowed, others_line};
-ghost use Rattle.pb_cmd_trace.specs.Stories.{entry_number};
+ghost use Rattle.pb_cmd_trace.specs.Stories.{AnswersFrame, IsConclusion, IsEntry, IsFollowed, entry_number};
+ghost use Rattle.pb_cmd_trace.specs.declared.lines.TraceLine.{TraceLine};
+ghost use Rattle.pb_cmd_trace.specs.declared.lines.TraceLine.TheVariants.{Others};
 
-use crate::telling::put_entry;
+use crate::lines::{TraceLine, push_entry, push_others, push_waits};
 use crate::walk::{Course, newest, walk};
 use bytes::Bytes;
 use pb_converge::{DriveFault, drain, fault_in};
 use pb_frame::Memory;
 use pb_lan::{Event, Place, Plan, Step};
 use pb_net::{Did, Net, NetFault};
-use pb_step_script::put_idle;
 use std::alloc::Global;
 
 /// The most other events until nothing is due.
@@ -35,16 +35,6 @@ pub(crate) enum Fate {
     NoFrame,
 }
 
-/// Appends the number of other events, if there were any.
-fn put_others(out: &mut String, others: u64) -> Result<(), Memory>
-    ensures { OnOk result (string_bytes out.new ≡ string_bytes out.old ++ others_line others) }
-{
-    if others != 0 {
-        writeln!(out, "other events {others}")?;
-    }
-    Ok(())
-}
-
 /// Returns the number of an injected frame among those of its port.
 fn entry_number(step: &Step) -> u64
     ensures { result ≡ entry_number step.now }
@@ -58,44 +48,38 @@ fn entry_number(step: &Step) -> u64
     }
 }
 
-/// Appends the line of a frame that was just injected at a customer port, and returns its number among those of the
+/// Appends the report of a frame that was just injected at a customer port, and returns its number among those of the
 /// port.
-fn tell_entry(
-    alloc: Global,
-    out: &mut String,
-    plan: &Plan,
-    net: &Net,
-    port: u8,
-) -> Result<u64, Memory>
+fn tell_entry(lines: &mut Vec<TraceLine>, net: &Net, port: u8) -> Result<u64, Memory>
     requires has { has_place net.now.plan (Customer port) ≡ true }
     requires grown { HasGrown net.now.rec (Customer port) }
     requires kept { net.now.is_kept ≡ true }
-    ensures { IfOk result (λ number. (text : List ℕ) × (string_bytes out.new ≡ string_bytes out.old ++ text)
-        × IsEntry plan.now port number net.now text) }
+    ensures { IfOk result (λ number. (more : List TraceLine) × (lines.new.items ≡ lines.old.items ++ more)
+        × IsEntry port number net.now more) }
 {
     let (_, step) = newest(net, Place::Customer(port));
-    put_entry(alloc, out, plan, port, step)?;
+    push_entry(lines, port, step)?;
     Ok(entry_number(step))
 }
 
-/// Does what else is due, and appends the number of these events, if there were any.
-fn finish(out: &mut String, plan: &Plan, net: &mut Net) -> Result<(), DriveFault>
+/// Does what else is due, and appends the number of these events.
+fn finish(lines: &mut Vec<TraceLine>, plan: &Plan, net: &mut Net) -> Result<(), DriveFault>
     requires sound { IsSound plan.now }
     requires plan { net.old.plan ≡ plan.now }
     ensures plan { net.new.plan ≡ plan.now }
     ensures ok { OnOk result ((others : ℕ) × HasDrained others net.old net.new
-        × (string_bytes out.new ≡ string_bytes out.old ++ others_line others)) }
+        × (lines.new.items ≡ lines.old.items ++ Others others ∷ [])) }
     ensures err { IfErr result (λ fault. IsCaused 1000000 fault net.old) }
 {
     match drain(net, plan, MOST_OTHERS) {
-        Ok(others) => Ok(put_others(out, others)?),
+        Ok(others) => Ok(push_others(lines, others)?),
         Err(fault) => Err(fault_in(net, fault)),
     }
 }
 
 /// Does what else is due, if the frame and its copies went as far as they go.
 fn conclude(
-    out: &mut String,
+    lines: &mut Vec<TraceLine>,
     plan: &Plan,
     net: &mut Net,
     course: Course,
@@ -104,14 +88,14 @@ fn conclude(
     requires sound { IsSound plan.now }
     requires plan { net.old.plan ≡ plan.now }
     ensures plan { net.new.plan ≡ plan.now }
-    ensures ok { IfOk result (λ fate. (text : List ℕ) × (string_bytes out.new ≡ string_bytes out.old ++ text)
-        × IsConclusion course fate number net.old net.new text) }
+    ensures ok { IfOk result (λ fate. (more : List TraceLine) × (lines.new.items ≡ lines.old.items ++ more)
+        × IsConclusion course fate number net.old net.new more) }
     ensures err { IfErr result (λ fault. IsCaused 1000000 fault net.old) }
 {
     match course {
         Course::GoesRound => Ok(Fate::GoesRound(number)),
         Course::Ended => {
-            finish(out, plan, net)?;
+            finish(lines, plan, net)?;
             Ok(Fate::Ended)
         }
     }
@@ -120,7 +104,7 @@ fn conclude(
 /// Appends the trace of a frame that was just injected at a customer port.
 fn follow(
     alloc: Global,
-    out: &mut String,
+    lines: &mut Vec<TraceLine>,
     plan: &Plan,
     net: &mut Net,
     port: u8,
@@ -131,19 +115,19 @@ fn follow(
     requires has { has_place net.old.plan (Customer port) ≡ true }
     requires grown { HasGrown net.old.rec (Customer port) }
     ensures plan { net.new.plan ≡ plan.now }
-    ensures ok { IfOk result (λ fate. (text : List ℕ) × (string_bytes out.new ≡ string_bytes out.old ++ text)
-        × IsFollowed plan.now port fate net.old net.new text) }
+    ensures ok { IfOk result (λ fate. (more : List TraceLine) × (lines.new.items ≡ lines.old.items ++ more)
+        × IsFollowed plan.now port fate net.old net.new more) }
     ensures err { IfErr result (λ fault. IsCaused 1000000 fault net.old) }
 {
-    let number = tell_entry(alloc, out, plan, net, port)?;
-    let course = walk(alloc, out, plan, net, port)?;
-    conclude(out, plan, net, course, number)
+    let number = tell_entry(lines, net, port)?;
+    let course = walk(alloc, lines, plan, net, port)?;
+    conclude(lines, plan, net, course, number)
 }
 
 /// Injects a frame at a customer port, and appends its trace.
 pub(crate) fn trace_frame(
     alloc: Global,
-    out: &mut String,
+    lines: &mut Vec<TraceLine>,
     plan: &Plan,
     net: &mut Net,
     port: u8,
@@ -153,14 +137,14 @@ pub(crate) fn trace_frame(
     requires plan { net.old.plan ≡ plan.now }
     requires kept { net.old.is_kept ≡ true }
     ensures plan { net.new.plan ≡ plan.now }
-    ensures ok { IfOk result (λ fate. (text : List ℕ) × (string_bytes out.new ≡ string_bytes out.old ++ text)
-        × AnswersFrame plan.now port frame fate net.old net.new text) }
+    ensures ok { IfOk result (λ fate. (more : List TraceLine) × (lines.new.items ≡ lines.old.items ++ more)
+        × AnswersFrame plan.now port frame fate net.old net.new more) }
     ensures err { IfErr result (λ fault. IsCaused 1000000 fault net.old) }
 {
     match net.step(Event::Poll { port, frame }) {
-        Ok(Did::Done(_)) => follow(alloc, out, plan, net, port),
+        Ok(Did::Done(_)) => follow(alloc, lines, plan, net, port),
         Ok(Did::Idle) => {
-            put_idle(out)?;
+            push_waits(lines)?;
             Ok(Fate::Ended)
         }
         Err(NetFault::NoSuch) => Ok(Fate::NoPort),

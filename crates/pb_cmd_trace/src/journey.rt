@@ -1,12 +1,14 @@
 //! The traces of several frames, one after the other.
 
-ghost use Rattle.std.specs.Prelude.{◌≡◌, ◌++◌, List, ℕ, true, string_bytes, IfOk, IfErr};
+ghost use Rattle.std.specs.Prelude.{◌≡◌, ◌++◌, List, true, IfOk, IfErr};
 ghost use Rattle.pb_converge.specs.Drives.{IsCaused};
 ghost use Rattle.pb_lan.specs.Plans.{IsSound};
 ghost use Rattle.pb_cmd_trace.specs.Stories.{AnswersEntry, HasJourneyed};
+ghost use Rattle.pb_cmd_trace.specs.declared.lines.TraceLine.{TraceLine};
 
 use crate::entry::Entry;
 use crate::frame::{Fate, trace_frame};
+use crate::lines::TraceLine;
 use crate::round::FrameId;
 use pb_converge::DriveFault;
 use pb_lan::Plan;
@@ -29,7 +31,7 @@ pub(crate) enum Journey {
 /// Injects the frame of an entry, and appends its trace.
 fn trace_entry(
     alloc: Global,
-    out: &mut String,
+    lines: &mut Vec<TraceLine>,
     plan: &Plan,
     net: &mut Net,
     entry: &Entry,
@@ -38,13 +40,13 @@ fn trace_entry(
     requires plan { net.old.plan ≡ plan.now }
     requires kept { net.old.is_kept ≡ true }
     ensures plan { net.new.plan ≡ plan.now }
-    ensures ok { IfOk result (λ fate. (text : List ℕ) × (string_bytes out.new ≡ string_bytes out.old ++ text)
-        × AnswersEntry plan.now entry.now fate net.old net.new text) }
+    ensures ok { IfOk result (λ fate. (more : List TraceLine) × (lines.new.items ≡ lines.old.items ++ more)
+        × AnswersEntry plan.now entry.now fate net.old net.new more) }
     ensures err { IfErr result (λ fault. IsCaused 1000000 fault net.old) }
 {
     let port = port_named(plan, entry.port.as_str());
     match read_frame(alloc, entry.hex.as_bytes())? {
-        Some(frame) => trace_frame(alloc, out, plan, net, port, frame),
+        Some(frame) => trace_frame(alloc, lines, plan, net, port, frame),
         None => Ok(Fate::NoFrame),
     }
 }
@@ -52,7 +54,7 @@ fn trace_entry(
 /// Injects frames one after the other, and appends their traces.
 pub(crate) fn travel(
     alloc: Global,
-    out: &mut String,
+    lines: &mut Vec<TraceLine>,
     plan: &Plan,
     net: &mut Net,
     entries: &[Entry],
@@ -61,12 +63,12 @@ pub(crate) fn travel(
     requires plan { net.old.plan ≡ plan.now }
     requires kept { net.old.is_kept ≡ true }
     ensures plan { net.new.plan ≡ plan.now }
-    ensures ok { IfOk result (λ journey. (text : List ℕ) × (string_bytes out.new ≡ string_bytes out.old ++ text)
-        × HasJourneyed plan.now entries.now journey net.old net.new text) }
+    ensures ok { IfOk result (λ journey. (more : List TraceLine) × (lines.new.items ≡ lines.old.items ++ more)
+        × HasJourneyed plan.now entries.now journey net.old net.new more) }
     ensures err { IfErr result (λ fault. IsCaused 1000000 fault net.old) }
 {
     for (index, entry) in entries.iter().enumerate() {
-        match trace_entry(alloc, out, plan, net, entry)? {
+        match trace_entry(alloc, lines, plan, net, entry)? {
             Fate::Ended => {}
             Fate::GoesRound(number) => {
                 let port = port_named(plan, entry.port.as_str());

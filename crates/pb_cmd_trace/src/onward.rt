@@ -7,7 +7,7 @@ use pb_lan::Event;
 
 /// The next event of a frame on its way.
 #[derive(Clone, Copy, Debug, PartialEq, Eq)]
-pub(crate) enum Onward {
+pub enum Onward {
     /// The customer port of this number feeds it to its bridge.
     Feed(u8),
     /// The customer port of this number delivers it.

@@ -6,7 +6,7 @@ ghost use Rattle.pb_cmd_trace.specs.Tellings.{class_words, customer_words, learn
 ghost use Rattle.pb_cmd_trace.specs.Tellings.{tag_text as text_of_tag, tagged_words, way_word, way_words};
 
 use crate::names::{name_of_vid, neighbour};
-use crate::stations::{has_service_tag, is_known};
+use crate::stations::has_service_tag;
 use pb_forest::vid_numbered;
 use pb_frame::{Memory, has_priority_tag, hex_text, priority_of, vid_of};
 use pb_lan::{CustomerPlan, Learnt, Outcome, Plan, Step};
@@ -97,41 +97,23 @@ fn learnt_words(learnt: Option<Learnt>) -> &'static str
 
 /// Returns why a relayed frame is sent at the chosen ports: its station is known, or it is flooded. A frame with no
 /// egress port is dropped (IEEE 802.1Q clause 8.6).
-fn way_word(
-    plan: &Plan,
-    bridge: u8,
-    steps: &[Step],
-    port: u8,
-    wire: &[u8],
-    chosen: &[u8],
-) -> &'static str
-    ensures { result.now ≡ way_word plan.now bridge steps.now port wire.now chosen.now }
+fn way_word(known: bool, chosen: &[u8]) -> &'static str
+    ensures { result.now ≡ way_word known chosen.now }
 {
     if chosen.is_empty() {
         return "";
     }
-    if is_known(plan, bridge, steps, port, wire) {
-        ", known"
-    } else {
-        ", flooded"
-    }
+    if known { ", known" } else { ", flooded" }
 }
 
 /// Returns why a received frame is sent where it is, or an empty text if it is not relayed.
-fn way_words(
-    plan: &Plan,
-    bridge: u8,
-    steps: &[Step],
-    port: u8,
-    wire: &[u8],
-    outcome: &Outcome,
-) -> &'static str
-    ensures { result.now ≡ way_words plan.now bridge steps.now port wire.now outcome.now }
+fn way_words(known: bool, outcome: &Outcome) -> &'static str
+    ensures { result.now ≡ way_words known outcome.now }
 {
     match outcome {
         Outcome::Relayed { chosen, .. } => {
             let chosen = chosen.list();
-            way_word(plan, bridge, steps, port, wire, chosen.as_slice())
+            way_word(known, chosen.as_slice())
         }
         Outcome::Filtered(_) | Outcome::Heard => "",
     }
@@ -145,11 +127,11 @@ pub(crate) fn put_receipt(
     plan: &Plan,
     bridge: u8,
     port: u8,
-    steps: &[Step],
+    known: bool,
     step: &Step,
 ) -> Result<(), Memory>
     ensures { OnOk result (string_bytes out.new ≡ string_bytes out.old
-        ++ receipt_words plan.now bridge port steps.now step.now) }
+        ++ receipt_words plan.now bridge port known step.now) }
 {
     let Step::Receive {
         item,
@@ -166,6 +148,6 @@ pub(crate) fn put_receipt(
     write!(out, "{name} {port} from {near}")?;
     put_class(alloc, out, plan, bridge, port, wire)?;
     out.push_str(learnt_words(*learnt))?;
-    out.push_str(way_words(plan, bridge, steps, port, wire, outcome))?;
+    out.push_str(way_words(known, outcome))?;
     Ok(())
 }

@@ -1,11 +1,11 @@
 //! Convergence before the first frame.
 
-ghost use Rattle.std.specs.Prelude.{◌≡◌, ◌++◌, List, ℕ, string_bytes, IfErr, OnOk};
+ghost use Rattle.std.specs.Prelude.{◌≡◌, IfErr, IfOk};
 ghost use Rattle.pb_converge.specs.Drives.{IsCaused};
 ghost use Rattle.pb_lan.specs.Plans.{IsSound};
 ghost use Rattle.pb_cmd_trace.specs.Stories.{HasBegun};
 
-use pb_converge::{DriveFault, put_rest, settle};
+use pb_converge::{DriveFault, Rest, settle};
 use pb_lan::Plan;
 use pb_net::Net;
 use std::alloc::Global;
@@ -13,24 +13,22 @@ use std::alloc::Global;
 /// The most events besides ticks until convergence.
 const MOST_EVENTS: u64 = 1_000_000_000;
 
-/// Drives the network to convergence within these ticks of each bridge, if any, and appends the result.
+/// Drives the network to convergence within these ticks of each bridge, if any, and returns the result.
 pub(crate) fn begin(
     alloc: Global,
-    out: &mut String,
     plan: &Plan,
     net: &mut Net,
     most: Option<u32>,
-) -> Result<(), DriveFault>
+) -> Result<Option<Rest>, DriveFault>
     requires sound { IsSound plan.now }
     requires plan { net.old.plan ≡ plan.now }
     ensures plan { net.new.plan ≡ plan.now }
-    ensures ok { OnOk result ((text : List ℕ) × (string_bytes out.new ≡ string_bytes out.old ++ text)
-        × HasBegun most net.old net.new text) }
+    ensures ok { IfOk result (HasBegun most net.old net.new) }
     ensures err { IfErr result (λ fault. IsCaused 1000000 fault net.old) }
 {
     let Some(ticks) = most else {
-        return Ok(());
+        return Ok(None);
     };
     let rest = settle(alloc, net, plan, ticks, MOST_EVENTS)?;
-    Ok(put_rest(out, rest)?)
+    Ok(Some(rest))
 }

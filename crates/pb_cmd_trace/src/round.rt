@@ -12,7 +12,7 @@ use pb_names::link_name;
 
 /// A customer's frame.
 #[derive(Clone, Copy, Debug, PartialEq, Eq)]
-pub(crate) struct FrameId {
+pub struct FrameId {
     /// The customer port at which it was injected.
     pub port: u8,
     /// Its number among the frames of that port.

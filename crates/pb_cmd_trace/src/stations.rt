@@ -5,8 +5,9 @@ ghost use Rattle.std.specs.List.{list_any};
 ghost use Rattle.pb_frame.specs.Frames.{dst_of, src_of, is_group};
 ghost use Rattle.pb_frame.specs.Tags.{has_service_tag};
 ghost use Rattle.pb_lan.specs.Choice.{is_noted};
-ghost use Rattle.pb_cmd_trace.specs.Stations.{came_as, is_known, is_shown, is_vid, shows};
+ghost use Rattle.pb_cmd_trace.specs.Stations.{came_as, is_known, is_shown, is_vid, known_at, known_by, shows};
 
+use crate::onward::Onward;
 use pb_forest::vid_numbered;
 use pb_frame::{has_service_type, vid_of};
 use pb_lan::{Learnt, Plan, Step};
@@ -118,11 +119,33 @@ fn is_shown(plan: &Plan, bridge: u8, steps: &[Step], address: &[u8], vid: Option
 
 /// Checks whether a frame that a bridge received at a port is for one station, and the bridge has learnt it by one of
 /// these steps. Ageing and moves are not considered.
-pub(crate) fn is_known(plan: &Plan, bridge: u8, steps: &[Step], port: u8, wire: &[u8]) -> bool
+fn is_known(plan: &Plan, bridge: u8, steps: &[Step], port: u8, wire: &[u8]) -> bool
     ensures { result ≡ is_known plan.now bridge steps.now port wire.now }
 {
     let address = destination(wire);
     let vid = came_as(plan, bridge, port, wire);
     let shown = is_shown(plan, bridge, steps, address, vid);
     !is_group(address) && shown
+}
+
+/// Checks whether a bridge received a frame at a port by a step, which is the last one of `steps`, and had learnt the
+/// station of its destination.
+fn known_by(plan: &Plan, bridge: u8, steps: &[Step], port: u8, step: &Step) -> bool
+    ensures { result ≡ known_by plan.now bridge steps.now port step.now }
+{
+    match step {
+        Step::Receive { item, .. } => is_known(plan, bridge, steps, port, item.wire.as_slice()),
+        _ => false,
+    }
+}
+
+/// Checks whether a bridge received a frame by an event, whose step is the last one of `steps`, and had learnt the
+/// station of its destination.
+pub(crate) fn known_at(plan: &Plan, steps: &[Step], event: Onward, step: &Step) -> bool
+    ensures { result ≡ known_at plan.now steps.now event step.now }
+{
+    match event {
+        Onward::Receive(bridge, port) => known_by(plan, bridge, steps, port, step),
+        _ => false,
+    }
 }

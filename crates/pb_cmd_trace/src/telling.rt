@@ -1,11 +1,13 @@
 //! The lines of a frame's steps.
 
-ghost use Rattle.std.specs.Prelude.{◌≡◌, ◌++◌, string_bytes, OnOk};
+ghost use Rattle.std.specs.Prelude.{◌≡◌, ◌++◌, flat_map, string_bytes, OnOk};
+ghost use Rattle.pb_cmd_trace.specs.Lines.{line_text, others_line};
 ghost use Rattle.pb_cmd_trace.specs.Tellings.{added_word, delivery_line, direction_word, entry_line, hops_of, indent};
 ghost use Rattle.pb_cmd_trace.specs.Tellings.{drop_line, lane_words, receiving_line, result_line, sending_words};
 ghost use Rattle.pb_cmd_trace.specs.Tellings.{spaces, tag_by, tag_words, taking_line, told, transmission_line};
 ghost use Rattle.pb_messages.specs.Reasons.{reason_word};
 
+use crate::lines::TraceLine;
 use crate::names::neighbour;
 use crate::onward::Onward;
 use crate::receipt::{put_receipt, tag_text};
@@ -14,7 +16,7 @@ use pb_frame::{Memory, hex_text};
 use pb_lan::{Item, Outcome, Place, Plan, Reason, Step};
 use pb_messages::put_reason;
 use pb_names::{bridge_name, customer_at, link_name, port_name};
-use pb_step_script::put_done;
+use pb_step_script::{put_done, put_idle};
 use std::alloc::Global;
 
 /// The most levels of indentation, besides the first. A frame in a forwarding loop has no last hop.
@@ -171,14 +173,14 @@ fn put_receiving(
     plan: &Plan,
     bridge: u8,
     port: u8,
-    steps: &[Step],
+    known: bool,
     step: &Step,
 ) -> Result<(), Memory>
     ensures { OnOk result (string_bytes out.new ≡ string_bytes out.old
-        ++ receiving_line plan.now bridge port steps.now step.now) }
+        ++ receiving_line plan.now bridge port known step.now) }
 {
     put_indent(out, step)?;
-    put_receipt(alloc, out, plan, bridge, port, steps, step)?;
+    put_receipt(alloc, out, plan, bridge, port, known, step)?;
     out.push_str(": ")?;
     put_result(alloc, out, plan, bridge, step)
 }
@@ -233,28 +235,28 @@ fn put_taking(
     put_done(alloc, out, plan, Place::Lane(lane), step)
 }
 
-/// Appends the line of a step, which is the last one of `steps`. A Feed and a Put have no line.
-pub(crate) fn put_told(
+/// Appends the line of a step with a frame, whose station is known or not. A Feed and a Put have no line.
+fn put_told(
     alloc: Global,
     out: &mut String,
     plan: &Plan,
-    steps: &[Step],
+    known: bool,
     onward: Onward,
     step: &Step,
 ) -> Result<(), Memory>
-    ensures { OnOk result (string_bytes out.new ≡ string_bytes out.old ++ told plan.now steps.now onward step.now) }
+    ensures { OnOk result (string_bytes out.new ≡ string_bytes out.old ++ told plan.now known onward step.now) }
 {
     match onward {
         Onward::Feed(_) | Onward::Put(_) => Ok(()),
         Onward::Deliver(port) => put_delivery(alloc, out, plan, port, step),
-        Onward::Receive(bridge, port) => put_receiving(alloc, out, plan, bridge, port, steps, step),
+        Onward::Receive(bridge, port) => put_receiving(alloc, out, plan, bridge, port, known, step),
         Onward::Transmit(bridge, port) => put_transmission(alloc, out, plan, bridge, port, step),
         Onward::Take(lane) => put_taking(alloc, out, plan, lane, step),
     }
 }
 
 /// Appends the line of an injected frame.
-pub(crate) fn put_entry(
+fn put_entry(
     alloc: Global,
     out: &mut String,
     plan: &Plan,
@@ -269,4 +271,41 @@ pub(crate) fn put_entry(
     let octets = hex_text(alloc, item.wire.as_slice())?;
     write!(out, "in {octets}: ")?;
     put_done(alloc, out, plan, Place::Customer(port), step)
+}
+
+/// Appends the number of other events, if there were any.
+fn put_others(out: &mut String, others: u64) -> Result<(), Memory>
+    ensures { OnOk result (string_bytes out.new ≡ string_bytes out.old ++ others_line others) }
+{
+    if others != 0 {
+        writeln!(out, "other events {others}")?;
+    }
+    Ok(())
+}
+
+/// Appends the line of a report.
+fn put_line(alloc: Global, out: &mut String, plan: &Plan, line: &TraceLine) -> Result<(), Memory>
+    ensures { OnOk result (string_bytes out.new ≡ string_bytes out.old ++ line_text plan.now line.now) }
+{
+    match line {
+        TraceLine::Entered { port, step } => put_entry(alloc, out, plan, *port, step),
+        TraceLine::Waits => put_idle(out),
+        TraceLine::Went { event, step, known } => put_told(alloc, out, plan, *known, *event, step),
+        TraceLine::Others(others) => put_others(out, *others),
+    }
+}
+
+/// Appends the lines of reports.
+pub(crate) fn put_lines(
+    alloc: Global,
+    out: &mut String,
+    plan: &Plan,
+    lines: &[TraceLine],
+) -> Result<(), Memory>
+    ensures { OnOk result (string_bytes out.new ≡ string_bytes out.old ++ flat_map (line_text plan.now) lines.now) }
+{
+    for line in lines {
+        put_line(alloc, out, plan, line)?;
+    }
+    Ok(())
 }

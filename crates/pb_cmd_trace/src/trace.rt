@@ -1,102 +1,73 @@
 //! The command.
 
 ghost use Rattle.std.specs.Prelude.{◌≡◌, ◌≢◌, ◌++◌, List, ℕ, true, string_bytes, IfOk, IfErr, OnOk};
-ghost use Rattle.std.specs.Io.KnownBytes.{Appends, Keeps};
+ghost use Rattle.std.specs.Io.KnownBytes.{Keeps};
 ghost use Rattle.pb_converge.specs.Drives.{IsCaused, ReachesLimit};
-ghost use Rattle.pb_converge.specs.Enough.{HasEnoughMemory};
 ghost use Rattle.pb_converge.specs.Falls.{fresh_by};
-ghost use Rattle.pb_lan.specs.Events.{has_place};
 ghost use Rattle.pb_lan.specs.Plans.{IsSound};
 ghost use Rattle.pb_lan.specs.Records.{IsLawfulRecord};
-ghost use Rattle.pb_lan.specs.declared.step.Place.TheVariants.{Customer};
 ghost use Rattle.pb_relay.specs.Protocol.{spanning_tree};
-ghost use Rattle.pb_cmd_trace.specs.Traces.{AnswersTrace, EndsTrace, HasTold, HasTraced, RunsIntoLimit, end_lines};
+ghost use Rattle.pb_cmd_trace.specs.Traces.{AnswersTrace, HasTold, HasTraced, RunsIntoLimit, end_lines, head_text};
+ghost use Rattle.pb_cmd_trace.specs.Traces.{trace_text};
 
 use crate::asked::Asked;
 use crate::end::TraceEnd;
-use crate::journey::{Journey, travel};
-use crate::rests::begin;
 use crate::round::{FrameId, put_round};
 use crate::summary::put_summary;
-use pb_converge::{DriveFault, check_memory, disables, fault_of};
+use crate::telling::put_lines;
+use crate::tracing::{TraceReport, Tracing, trace_plan};
+use pb_converge::{DriveFault, Rest, fault_of, put_rest};
 use pb_frame::Memory;
-use pb_lan::{Place, Plan};
+use pb_lan::{Plan, Record};
 use pb_messages::{CommandFault, write_whole};
-use pb_net::Net;
 use pb_report::write_refusal;
 use pb_service::read_plan;
 use std::alloc::Global;
 use std::io::Write;
+
+/// Appends whether the bridges converged first, if that was requested.
+fn put_head(out: &mut String, rest: Option<Rest>) -> Result<(), Memory>
+    ensures { OnOk result (string_bytes out.new ≡ string_bytes out.old ++ head_text rest) }
+{
+    match rest {
+        None => Ok(()),
+        Some(rest) => put_rest(out, rest),
+    }
+}
 
 /// Appends the last lines: the forwarding loop if there is one, and the summary.
 fn put_end(
     alloc: Global,
     out: &mut String,
     plan: &Plan,
-    net: Net,
+    rec: &Record,
     round: Option<FrameId>,
 ) -> Result<(), Memory>
     requires sound { IsSound plan.now }
-    requires plan { net.plan ≡ plan.now }
-    requires kept { net.is_kept ≡ true }
-    ensures text { OnOk result (string_bytes out.new ≡ string_bytes out.old ++ end_lines plan.now net.rec round) }
-    ensures lawful { OnOk result (IsLawfulRecord spanning_tree plan.now net.rec) }
-    ensures enough { OnOk result (HasEnoughMemory net.rec) }
+    requires lawful { IsLawfulRecord spanning_tree plan.now rec.now }
+    ensures { OnOk result (string_bytes out.new ≡ string_bytes out.old ++ end_lines plan.now rec.now round) }
 {
-    let rec = net.finish();
-    check_memory(alloc, &rec)?;
-    put_round(out, plan, &rec, round)?;
-    put_summary(alloc, out, plan, &rec)?;
-    Ok(())
+    put_round(out, plan, rec, round)?;
+    put_summary(alloc, out, plan, rec)
 }
 
-/// Shows that the record of a network with customer ports is lawful, and does nothing.
-fn steps_are_lawful(net: &Net)
-    requires { net.now.is_kept ≡ true }
-    ensures { has_place net.now.plan (Customer 1) ≡ true → IsLawfulRecord spanning_tree net.now.plan net.now.rec }
-{
-    let first = Place::Customer(1);
-    if net.has_place(first) {
-        let _steps = net.steps(first);
-    }
-}
-
-/// Appends the traces of frames, from a network that no frame has entered.
-fn put_stories(
+/// Appends the lines of a trace.
+fn put_report(
     alloc: Global,
     out: &mut String,
     plan: &Plan,
-    mut net: Net,
-    asked: &Asked<'_>,
-) -> Result<TraceEnd, DriveFault>
+    report: &TraceReport,
+) -> Result<(), Memory>
     requires sound { IsSound plan.now }
-    requires plan { net.plan ≡ plan.now }
-    requires kept { net.is_kept ≡ true }
-    ensures ok { IfOk result (λ end. (text : List ℕ) × (string_bytes out.new ≡ string_bytes out.old ++ text)
-        × EndsTrace plan.now asked.now end net text) }
-    ensures err { IfErr result (λ fault. IsCaused 1000000 fault net) }
+    requires lawful { IsLawfulRecord spanning_tree plan.now report.now.record }
+    ensures { OnOk result (string_bytes out.new ≡ string_bytes out.old ++ trace_text plan.now report.now) }
 {
-    begin(alloc, out, plan, &mut net, asked.settle)?;
-    steps_are_lawful(&net);
-    match travel(alloc, out, plan, &mut net, asked.entries)? {
-        Journey::Told(round) => {
-            put_end(alloc, out, plan, net, round)?;
-            Ok(TraceEnd::Told)
-        }
-        Journey::NoPort(index) => Ok(TraceEnd::NoPort(index)),
-        Journey::NoFrame(index) => Ok(TraceEnd::NoFrame(index)),
-    }
+    put_head(out, report.rest)?;
+    put_lines(alloc, out, plan, report.lines.as_slice())?;
+    put_end(alloc, out, plan, &report.record, report.round)
 }
 
-/// Returns the network of a plan, in which no place has taken a step. It keeps its steps.
-fn kept(alloc: Global, plan: &Plan) -> Result<Net, Memory>
-    requires { IsSound plan.now }
-    ensures { IfOk result (λ net. net ≡ fresh_by true plan.now) }
-{
-    Net::new(alloc, plan.clone()?)
-}
-
-/// Disables what `asked.downs` names, and appends the traces of frames in the network of a plan.
+/// Appends the traces of frames in the network of a plan. If an argument is wrong, nothing is appended.
 fn put_trace(
     alloc: Global,
     out: &mut String,
@@ -108,10 +79,14 @@ fn put_trace(
         × AnswersTrace plan.now asked.now end text) }
     ensures err { IfErr result (λ fault. IsCaused 1000000 fault (fresh_by true plan.now)) }
 {
-    let mut net = kept(alloc, plan)?;
-    match disables(alloc, &mut net, plan, asked.downs)? {
-        Some(fault) => Ok(TraceEnd::NoDown(fault)),
-        None => put_stories(alloc, out, plan, net, asked),
+    match trace_plan(alloc, plan, asked)? {
+        Tracing::Told(report) => {
+            put_report(alloc, out, plan, &report)?;
+            Ok(TraceEnd::Told)
+        }
+        Tracing::NoPort(index) => Ok(TraceEnd::NoPort(index)),
+        Tracing::NoFrame(index) => Ok(TraceEnd::NoFrame(index)),
+        Tracing::NoDown(fault) => Ok(TraceEnd::NoDown(fault)),
     }
 }
 

@@ -1,6 +1,6 @@
 //! The walk of a frame and its copies through a network, step by step.
 
-ghost use Rattle.std.specs.Prelude.{◌≡◌, ◌++◌, ◌∷◌, [], List, ℕ, true, Some, string_bytes, IfOk, IfErr};
+ghost use Rattle.std.specs.Prelude.{◌≡◌, ◌++◌, ◌∷◌, [], List, true, Some, IfOk, IfErr};
 ghost use Rattle.pb_converge.specs.Drives.{IsCaused};
 ghost use Rattle.pb_lan.specs.Events.{has_place, steps_at};
 ghost use Rattle.pb_lan.specs.Plans.{IsSound};
@@ -8,11 +8,12 @@ ghost use Rattle.pb_lan.specs.Records.{IsLawfulRecord};
 ghost use Rattle.pb_relay.specs.Protocol.{spanning_tree};
 ghost use Rattle.pb_cmd_step.specs.Steps.{newest_at, HasGrown};
 ghost use Rattle.pb_cmd_trace.specs.Walks.{GoesOn, HasWalked};
+ghost use Rattle.pb_cmd_trace.specs.declared.lines.TraceLine.{TraceLine};
 ghost use Rattle.pb_cmd_trace.specs.declared.onward.Onward.TheVariants.{Feed};
 
 use crate::following::push_following;
+use crate::lines::{TraceLine, push_step};
 use crate::onward::{Onward, event_of};
-use crate::telling::put_told;
 use pb_converge::{DriveFault, fault_in};
 use pb_frame::Memory;
 use pb_lan::{Place, Plan, Step};
@@ -50,11 +51,10 @@ pub(crate) fn newest(net: &Net, place: Place) -> (&[Step], &Step)
     (steps, step)
 }
 
-/// Does an event if it is due, appends the line of its step, and appends the events that follow to `todo`. Returns
+/// Does an event if it is due, appends the report of its step, and appends the events that follow to `todo`. Returns
 /// whether it was due.
 fn go_on(
-    alloc: Global,
-    out: &mut String,
+    lines: &mut Vec<TraceLine>,
     plan: &Plan,
     net: &mut Net,
     todo: &mut Vec<Onward>,
@@ -65,13 +65,13 @@ fn go_on(
     requires kept { net.old.is_kept ≡ true }
     ensures plan { net.new.plan ≡ plan.now }
     ensures ok { IfOk result (λ went. GoesOn went plan.now onward net.old net.new todo.old.items todo.new.items
-        (string_bytes out.old) (string_bytes out.new)) }
+        lines.old.items lines.new.items) }
     ensures err { IfErr result (λ fault. IsCaused 1000000 fault net.old) }
 {
     match net.step(event_of(onward)) {
         Ok(Did::Done(place)) => {
             let (steps, step) = newest(net, place);
-            put_told(alloc, out, plan, steps, onward, step)?;
+            push_step(lines, plan, steps, onward, step)?;
             push_following(todo, plan, onward, step)?;
             Ok(true)
         }
@@ -81,10 +81,9 @@ fn go_on(
     }
 }
 
-/// Does the events of `todo`, the last one first, and appends the line of each step.
+/// Does the events of `todo`, the last one first, and appends the report of each step.
 fn walk_on(
-    alloc: Global,
-    out: &mut String,
+    lines: &mut Vec<TraceLine>,
     plan: &Plan,
     net: &mut Net,
     todo: &mut Vec<Onward>,
@@ -93,15 +92,15 @@ fn walk_on(
     requires plan { net.old.plan ≡ plan.now }
     requires kept { net.old.is_kept ≡ true }
     ensures plan { net.new.plan ≡ plan.now }
-    ensures ok { IfOk result (λ course. (text : List ℕ) × (string_bytes out.new ≡ string_bytes out.old ++ text)
-        × HasWalked plan.now todo.old.items course net.old net.new text) }
+    ensures ok { IfOk result (λ course. (more : List TraceLine) × (lines.new.items ≡ lines.old.items ++ more)
+        × HasWalked plan.now todo.old.items course net.old net.new more) }
     ensures err { IfErr result (λ fault. IsCaused 1000000 fault net.old) }
 {
     for _ in 0..MOST_EVENTS {
         let Some(onward) = todo.pop() else {
             return Ok(Course::Ended);
         };
-        if !go_on(alloc, out, plan, net, todo, onward)? {
+        if !go_on(lines, plan, net, todo, onward)? {
             return Ok(Course::Ended);
         }
     }
@@ -117,12 +116,12 @@ fn feeding(alloc: Global, port: u8) -> Result<Vec<Onward>, Memory>
     Ok(todo)
 }
 
-/// Follows the frame that a customer port holds, with its copies, and appends the line of each step.
+/// Follows the frame that a customer port holds, with its copies, and appends the report of each step.
 ///
 /// A copy is followed to its end before the next one; of a bridge's copies the one at the lowest port comes first.
 pub(crate) fn walk(
     alloc: Global,
-    out: &mut String,
+    lines: &mut Vec<TraceLine>,
     plan: &Plan,
     net: &mut Net,
     port: u8,
@@ -131,10 +130,10 @@ pub(crate) fn walk(
     requires plan { net.old.plan ≡ plan.now }
     requires kept { net.old.is_kept ≡ true }
     ensures plan { net.new.plan ≡ plan.now }
-    ensures ok { IfOk result (λ course. (text : List ℕ) × (string_bytes out.new ≡ string_bytes out.old ++ text)
-        × HasWalked plan.now (Feed port ∷ []) course net.old net.new text) }
+    ensures ok { IfOk result (λ course. (more : List TraceLine) × (lines.new.items ≡ lines.old.items ++ more)
+        × HasWalked plan.now (Feed port ∷ []) course net.old net.new more) }
     ensures err { IfErr result (λ fault. IsCaused 1000000 fault net.old) }
 {
     let mut todo = feeding(alloc, port)?;
-    walk_on(alloc, out, plan, net, &mut todo)
+    walk_on(lines, plan, net, &mut todo)
 }

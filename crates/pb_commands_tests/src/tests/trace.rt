@@ -5,6 +5,7 @@ ghost use Rattle.std.specs.Io.KnownBytes.{Keeps};
 ghost use Rattle.pb_cmd_trace.specs.Traces.{HasTold, RunsIntoLimit};
 
 mod failures;
+mod pictures;
 mod plans;
 
 use pb_cmd_trace::{Asked, Entry, TraceEnd, run_trace};
@@ -50,8 +51,8 @@ fn words_of(alloc: Global, texts: &[&str]) -> Result<Vec<String>, AllocError> {
     Ok(words)
 }
 
-/// Calls `run_trace` with what a caller may conclude: the traces of the frames in the network of the plan in the file, a
-/// name that it does not have, or the rule that it breaks, and when each error comes.
+/// Calls `run_trace` with what a caller may conclude: the traces of the frames in the network of the plan in the file,
+/// a name that it does not have, or the rule that it breaks, and when each error comes.
 fn traced<W: Write>(
     alloc: Global,
     file: &[u8],

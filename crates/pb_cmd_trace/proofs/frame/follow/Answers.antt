@@ -1,4 +1,4 @@
-use Rattle.std.proofs.Common.{◌∷◌, [], string_bytes}
+use Rattle.std.proofs.Common.{◌∷◌, []}
 use Rattle.std.proofs.lemmas.Result.{IfErr-weaker, IfOk-weaker}
 use Rattle.pb_converge.proofs.LimitLemmas.{caused-later}
 use Rattle.pb_cmd_trace.proofs.DoneLemmas.{walked-run}
@@ -12,8 +12,8 @@ returns-clause-ok c =
     let w = c.in_ok-course.ensures.ok in
     IfOk-weaker c.conclude.result _ _ (λ fate f. follow_joined c.args.plan.now c.args.port c.in_ok-number.number
     c.args.net.now c.walk.new.net c.conclude.new.net c.in_ok-course.course fate e.0 w.0 f.0
-    (string_bytes c.args.out.now) (string_bytes c.tell_entry.new.out) (string_bytes c.walk.new.out)
-    (string_bytes c.conclude.new.out) e.2 w.2 f.2 e.1 w.1 f.1)
+    c.args.lines.now.items c.tell_entry.new.lines.items c.walk.new.lines.items
+    c.conclude.new.lines.items e.2 w.2 f.2 e.1 w.1 f.1)
     c.conclude.ensures.ok
 
 pub returns-clause-err : goal.returns-clause-err

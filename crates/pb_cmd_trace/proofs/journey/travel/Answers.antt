@@ -1,4 +1,4 @@
-use Rattle.std.proofs.Common.{◌++◌, take, string_bytes, ap, subst, sym, ◌∙◌, append_assoc}
+use Rattle.std.proofs.Common.{◌++◌, take, ap, subst, sym, ◌∙◌, append_assoc}
 use Rattle.std.proofs.lemmas.Result.{err_from_is_err_and}
 use Rattle.pb_converge.proofs.LimitLemmas.{caused-later}
 use Rattle.pb_converge.specs.Drives.{IsCaused}
@@ -18,7 +18,7 @@ returns-in-GoesRound-clause-ok c =
     round_told plan c.args.entries.now c.loop-index.index entry
     (record { port = c.port_named-port.result; number = c.in-GoesRound.number }) c.args.net.now c.loop-index.net
     c.trace_entry.new.net
-    (string_bytes c.args.out.now) before.0 f.0 (string_bytes c.loop-index.out) (string_bytes c.trace_entry.new.out)
+    c.args.lines.now.items before.0 f.0 c.loop-index.lines.items c.trace_entry.new.lines.items
     c.loop-index-test.true c.index-entries-index.is before.1 before.2 f.1 f.2
     (c.port_named-port.ensures ∙ ap (λ t. port_named plan t) c.as_str.ensures.value)
 
@@ -28,7 +28,7 @@ returns-in-NoPort-clause-ok c =
     let before = c.loop-index.invariant.told in
     let f = rw c.in-NoPort.is at c.in_ok-trace_entry.ensures.ok in (
       before.0 ++ f.0,
-      f.1 ∙ ap (λ z. z ++ f.0) before.1 ∙ append_assoc (string_bytes c.args.out.now) before.0 f.0,
+      f.1 ∙ ap (λ z. z ++ f.0) before.1 ∙ append_assoc c.args.lines.now.items before.0 f.0,
       (
         entry,
         here_is c.args.entries.now c.loop-index.index entry c.loop-index-test.true c.index-entries-index.is,
@@ -43,7 +43,7 @@ returns-in-NoFrame-clause-ok c =
     let before = c.loop-index.invariant.told in
     let f = rw c.in-NoFrame.is at c.in_ok-trace_entry.ensures.ok in (
       before.0 ++ f.0,
-      f.1 ∙ ap (λ z. z ++ f.0) before.1 ∙ append_assoc (string_bytes c.args.out.now) before.0 f.0,
+      f.1 ∙ ap (λ z. z ++ f.0) before.1 ∙ append_assoc c.args.lines.now.items before.0 f.0,
       (
         entry,
         here_is c.args.entries.now c.loop-index.index entry c.loop-index-test.true c.index-entries-index.is,
@@ -59,8 +59,8 @@ loop-index-preserved c =
     record {
       told = stories-more c.args.plan.now c.args.entries.now c.loop-index.index entry c.args.net.now c.loop-index.net
           c.trace_entry.new.net
-          (string_bytes c.args.out.now) before.0 f.0 (string_bytes c.loop-index.out)
-          (string_bytes c.trace_entry.new.out) c.loop-index-test.true c.index-entries-index.is before.1 before.2
+          c.args.lines.now.items before.0 f.0 c.loop-index.lines.items
+          c.trace_entry.new.lines.items c.loop-index-test.true c.index-entries-index.is before.1 before.2
           f.1 f.2;
       plan = c.in_ok-trace_entry.ensures.plan;
     }

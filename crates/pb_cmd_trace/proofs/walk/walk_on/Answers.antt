@@ -1,4 +1,4 @@
-use Rattle.std.proofs.Common.{◌≡◌, string_bytes, arith, subst, sym, ◌∙◌}
+use Rattle.std.proofs.Common.{◌≡◌, arith, subst, sym, ◌∙◌}
 use Rattle.std.proofs.lemmas.Result.{err_from_is_err_and}
 use Rattle.pb_converge.proofs.LimitLemmas.{caused-later}
 use Rattle.pb_converge.specs.Drives.{IsCaused}
@@ -12,13 +12,13 @@ pub loop-preserved : goal.loop-preserved
 loop-preserved c =
     let before = c.loop.invariant in
     let plan = c.args.plan.now in
-    let out = string_bytes c.go_on.new.out in
+    let lines = c.go_on.new.lines.items in
     let went = subst (λ b. GoesOn b plan c.in-Some.onward c.loop.net c.go_on.new.net c.pop.new.self.items
-    c.go_on.new.todo.items (string_bytes c.loop.out) out) c.if-not-branch.false c.in_ok-go_on.ensures.ok in
+    c.go_on.new.todo.items c.loop.lines.items lines) c.if-not-branch.false c.in_ok-go_on.ensures.ok in
     record {
       walked = walks-more c.loop.counter plan c.args.todo.now.items c.args.net.now c.loop.net c.go_on.new.net
           c.loop.todo.items c.pop.new.self.items c.in-Some.onward c.go_on.new.todo.items
-          (string_bytes c.args.out.now) before.walked.0 (string_bytes c.loop.out) out c.in-Some.ensures.items
+          c.args.lines.now.items before.walked.0 c.loop.lines.items lines c.in-Some.ensures.items
           before.walked.2 before.walked.1 went;
       plan = c.in_ok-go_on.ensures.plan;
     }

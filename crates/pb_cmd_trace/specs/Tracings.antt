@@ -1,0 +1,49 @@
+-- The traces of frames in the network of a plan.
+use Rattle.std.specs.Prelude.{◌≡◌}
+use Rattle.pb_converge.specs.Enough.{HasEnoughMemory}
+use Rattle.pb_converge.specs.Falls.{HaveFallen, IsRefused}
+use Rattle.pb_lan.specs.LastShapes.{last_shape}
+use Rattle.pb_lan.specs.Records.{IsLawfulRecord}
+use Rattle.pb_lan.specs.declared.plan.Plan.{Plan}
+use Rattle.pb_net.specs.Answers.{NetView}
+use Rattle.pb_relay.specs.Protocol.{spanning_tree}
+use Rattle.pb_cmd_trace.specs.Stories.{HasBegun, HasJourneyed, LacksPort, LacksFrame}
+use Rattle.pb_cmd_trace.specs.declared.asked.Asked.{Asked}
+use Rattle.pb_cmd_trace.specs.declared.journey.Journey.TheVariants.{Told as journey_told}
+use Rattle.pb_cmd_trace.specs.declared.tracing.TraceReport.{TraceReport}
+use Rattle.pb_cmd_trace.specs.declared.tracing.Tracing.{Tracing}
+use Rattle.pb_cmd_trace.specs.declared.tracing.Tracing.TheVariants.{Told, NoPort, NoFrame, NoDown}
+
+-- The bridges converge if that is requested, then the frames go one after the other. The record before the first frame and
+-- the last one, which has all steps, are lawful, and no allocation failed in the latter.
+pub record IsReportFrom (plan : Plan) (asked : Asked) (start : NetView) (report : TraceReport) : Type 0 where
+  pub rested : NetView
+  pub begun : HasBegun asked.settle start rested report.rest
+  pub planned : rested.plan ≡ plan
+  pub lawful : IsLawfulRecord spanning_tree plan rested.rec
+  pub shape : report.shape ≡ last_shape plan rested.rec
+  pub last : NetView
+  pub stories : HasJourneyed plan asked.entries.now (journey_told report.round) rested last report.lines
+  pub counted : IsLawfulRecord spanning_tree plan last.rec
+  pub enough : HasEnoughMemory last.rec
+  pub record_is : report.record ≡ last.rec
+
+-- those traces, or what is missing
+abbrev pub EndsTracing : Plan → Asked → NetView → Tracing → Type 0
+EndsTracing plan asked start (Told report) = IsReportFrom plan asked start report
+EndsTracing plan asked start (NoPort index) = LacksPort plan asked.entries.now index
+EndsTracing plan asked start (NoFrame index) = LacksFrame asked.entries.now index
+EndsTracing plan asked start (NoDown fault) = ⊥
+
+-- what the names disable is disabled first
+pub record IsReport (plan : Plan) (asked : Asked) (report : TraceReport) : Type 0 where
+  pub fallen : NetView
+  pub falls : HaveFallen plan asked.downs.now fallen
+  pub traced : IsReportFrom plan asked fallen report
+
+-- the traces, or what is missing or refused
+abbrev pub IsTracing : Plan → Asked → Tracing → Type 0
+IsTracing plan asked (Told report) = IsReport plan asked report
+IsTracing plan asked (NoPort index) = LacksPort plan asked.entries.now index
+IsTracing plan asked (NoFrame index) = LacksFrame asked.entries.now index
+IsTracing plan asked (NoDown fault) = IsRefused plan asked.downs.now fault

@@ -1,0 +1,5 @@
+use Rattle.std.proofs.Common.{◌∙◌, append_assoc}
+use Rattle.pb_trace_svg.proofs.svg_hops.put_port_data.Goals as goal
+
+pub returns : goal.returns
+returns c = (rw c.port_name-name.ensures at c.in_ok-write.ensures.bytes) ∙ simp append_assoc

@@ -1,0 +1,5 @@
+pub mod Hops
+pub mod Words
+pub mod Marks
+pub mod SvgHops
+pub mod Pictures
