@@ -2,14 +2,14 @@
 # Compares pbnet with other programs. Installs the Debian packages that the parts need, and runs each part. The exit status
 # is 0 if each row of each table is alike or a listed difference.
 #
-#     interop/all.sh [PART..]     all parts, or these: differences survive diff balance eager comeback pauses view wireshark
-#                                 openvswitch rings vde speed linux hosts attach
+#     interop/all.sh [PART..]     all parts, or these: differences survive diff balance eager comeback pauses view report
+#                                 wireshark openvswitch rings vde speed linux hosts attach
 #
 # The program is ./pbnet, or that of the variable PBNET. The gate does not run this script.
 set -eu
 cd -- "$(dirname -- "$0")/.."
 
-all=(differences survive diff balance eager comeback pauses view wireshark openvswitch rings vde speed linux hosts attach)
+all=(differences survive diff balance eager comeback pauses view report wireshark openvswitch rings vde speed linux hosts attach)
 parts=("$@")
 [ "${#parts[@]}" -gt 0 ] || parts=("${all[@]}")
 status=0
@@ -30,7 +30,7 @@ done
 packages_of() {
     echo python3
     case $1 in
-        view) echo chromium ;;
+        view | report) echo chromium ;;
         wireshark) echo tshark wireshark-common ;;
         openvswitch | rings) echo openvswitch-switch openvswitch-common ;;
         vde | speed) echo vde-switch vdeplug gcc libc6-dev ;;

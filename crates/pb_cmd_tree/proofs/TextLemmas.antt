@@ -35,19 +35,19 @@ pub machine_is : (plan : Plan) (n : ℕ) (steps : List Step) (machine : Machine)
     → Some machine ≡ machine_in plan n steps → machine ≡ machine_of plan n steps
 machine_is plan n steps machine e h = Some-injective (h ∙ a_machine plan n steps e)
 
-role_at : (ports : List Port) (k : ℕ) (p : Port) (other : ℕ × Role) → slice_get ports k ≡ Some p
+pub role_at : (ports : List Port) (k : ℕ) (p : Port) (other : ℕ × Role) → slice_get ports k ≡ Some p
     → get_or (roles_of ports) k other ≡ (p.number, p.role)
 role_at [] k p other h = cc
 role_at (q ∷ ports) zero p other h = let e : q ≡ p = Some-injective h in ap (λ z. (z.number, z.role)) e
 role_at (q ∷ ports) (suc k) p other h = role_at ports k p other h
 
-state_at : (ports : List Port) (k : ℕ) (p : Port) (other : ℕ × PortState) → slice_get ports k ≡ Some p
+pub state_at : (ports : List Port) (k : ℕ) (p : Port) (other : ℕ × PortState) → slice_get ports k ≡ Some p
     → get_or (states_of ports) k other ≡ (p.number, p.state)
 state_at [] k p other h = cc
 state_at (q ∷ ports) zero p other h = let e : q ≡ p = Some-injective h in ap (λ z. (z.number, z.state)) e
 state_at (q ∷ ports) (suc k) p other h = state_at ports k p other h
 
-role_count : (ports : List Port) (roles : List (ℕ × Role)) (k : ℕ) → roles ≡ roles_of ports → k < length roles
+pub role_count : (ports : List Port) (roles : List (ℕ × Role)) (k : ℕ) → roles ≡ roles_of ports → k < length roles
     → k < length ports
 role_count ports roles k e within =
     let pair : Port → ℕ × Role = λ p. (p.number, p.role) in

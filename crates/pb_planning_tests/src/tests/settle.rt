@@ -194,7 +194,8 @@ fn have_same_machines(alloc: Global, one: &Net, other: &Net, plan: &Plan) -> Res
     Ok(ones.len() == others.len() && pairs.into_iter().all(|(a, b)| a.is_same(b)))
 }
 
-/// Checks that two networks that keep their steps perform all rounds, by `settle` and by `stand`, and are the same then.
+/// Checks that two networks that keep their steps perform all rounds, by `settle` and by `stand`, and are the same
+/// then.
 fn perform_all_rounds(
     rt: &impl Abort,
     alloc: Global,

@@ -1,0 +1,44 @@
+-- The rows of failures.
+use Rattle.std.specs.Prelude.{ℕ, true, false, List, [], ◌∷◌, ◌++◌, None, codes, flat_map, if◌then◌else◌}
+use Rattle.std.specs.List.{zip}
+use Rattle.pb_lan.specs.declared.plan.Plan.{Plan}
+use Rattle.pb_names.specs.Names.{service_name}
+use Rattle.pb_cmd_survive.specs.Reports.{failure_text, groups_text}
+use Rattle.pb_cmd_survive.specs.Verdicts.{parts_view}
+use Rattle.pb_cmd_survive.specs.declared.criteria.Criteria.{Criteria}
+use Rattle.pb_cmd_survive.specs.declared.impact.Impact.{Impact}
+use Rattle.pb_cmd_survive.specs.declared.view.View.{View}
+use Rattle.pb_cmd_report.specs.Html.{cell_of, row_of}
+use Rattle.pb_cmd_report.specs.States.{states_data}
+use Rattle.pb_cmd_report.specs.Words.{rest_words}
+use Rattle.pb_cmd_report.specs.declared.outcome.Outcome.{Outcome}
+
+-- all customer ports count but those of a failed bridge; every failure is in the report
+abbrev pub criteria : Criteria
+criteria = record { from = None; own = false; all = true; impaired = false }
+
+-- the services whose active links form a loop, each after a space
+abbrev pub loop_text : Plan → View → List ℕ
+loop_text plan v = if v.is_forest then [] else 32 ∷ service_name plan v.service
+
+abbrev pub loops_text : Plan → List View → List ℕ
+loops_text plan views = flat_map (loop_text plan) views
+
+-- the line of a service that the failure disconnects: its customer ports in groups that reach each other
+abbrev pub parted_view : Plan → (View × View) → List ℕ
+parted_view plan v =
+    if parts_view criteria v then service_name plan v.1.service ++ codes ":" ++ groups_text plan v.1.sites ++ 10 ∷ [] else []
+
+-- the lines of all such services
+abbrev pub parted_text : Plan → Impact → Impact → List ℕ
+parted_text plan base o = flat_map (parted_view plan) (zip base.views o.views)
+
+-- a failure: what is down, the ticks until the bridges converged, the loops, and the disconnected services
+abbrev pub failure_cells : Plan → Impact → Impact → List ℕ
+failure_cells plan base o =
+    cell_of (failure_text plan o.failure) ++ cell_of (rest_words o.rest) ++ cell_of (loops_text plan o.views)
+    ++ cell_of (parted_text plan base o)
+
+-- its row, with the states of all links then
+unfoldable pub failure_row : Plan → Impact → Outcome → List ℕ
+failure_row plan base o = row_of (states_data plan o.shape o.impact.failure) (failure_cells plan base o.impact)

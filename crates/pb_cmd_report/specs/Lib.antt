@@ -1,0 +1,9 @@
+pub mod Changes
+pub mod Failures
+pub mod Html
+pub mod Outcomes
+pub mod Pages
+pub mod States
+pub mod Tables
+pub mod Trees
+pub mod Words

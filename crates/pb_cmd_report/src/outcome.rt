@@ -1,0 +1,96 @@
+//! What `survive` says of a failure, and the states of all ports then.
+
+ghost use Rattle.std.specs.List.{AllZip};
+ghost use Rattle.std.specs.Prelude.{◌≡◌, IfOk};
+ghost use Rattle.pb_cmd_survive.specs.Impacts.{IsDriven, IsStanding};
+ghost use Rattle.pb_cmd_report.specs.Outcomes.{IsOutcomeOn, IsSeen};
+
+use crate::drive::drive;
+use pb_cmd_survive::{Failure, FailureProgress, Impact, Standing, look_each, views};
+use pb_converge::{DriveFault, Rest, shape_of};
+use pb_lan::Shape;
+use pb_net::Net;
+use std::alloc::Global;
+use std::thread::Threads;
+
+/// The impact of a failure, and the states of all ports then.
+#[derive(PartialEq, Debug, Drop)]
+pub struct Outcome {
+    /// The failure, whether the bridges converged after it, and the state of each service then.
+    pub impact: Impact,
+    /// The states of all ports then.
+    pub shape: Shape,
+}
+
+/// Returns the outcome of a failure from the network after it.
+fn seen_in(
+    alloc: Global,
+    standing: &Standing<'_>,
+    services: &[u8],
+    failure: Failure,
+    net: Net,
+    rest: Rest,
+) -> Result<Outcome, DriveFault>
+    requires up { IsStanding standing.now }
+    requires planned { net.plan ≡ standing.now.plan.now }
+    ensures { IfOk result (IsSeen standing.now.plan.now services.now failure rest net) }
+{
+    let plan = standing.plan;
+    let tallies = net.tallies()?;
+    let shape = shape_of(alloc, plan, &tallies)?;
+    let views = views(alloc, plan, &shape, failure, services)?;
+    Ok(Outcome {
+        impact: Impact {
+            failure,
+            rest,
+            views,
+        },
+        shape,
+    })
+}
+
+/// Returns the outcome of a failure on a network that is up, for the services with these numbers: the impact that
+/// [`pb_cmd_survive::look_at`] describes, and the states of all ports at its end.
+///
+/// # Errors
+///
+/// `Memory` if an allocation failed, also in a bridge, which then drops what it can't store. Else `Steps` if a place
+/// would take more steps than the plan allows, and `Events` if more events are due than the network's patience allows.
+pub(crate) fn look_at(
+    alloc: Global,
+    standing: &Standing<'_>,
+    services: &[u8],
+    failure: Failure,
+) -> Result<Outcome, DriveFault>
+    requires { IsStanding standing.now }
+    ensures { IfOk result (IsOutcomeOn standing.now services.now failure) }
+{
+    let (net, rest) = drive(alloc, standing, failure)?;
+    seen_in(alloc, standing, services, failure, net, rest)
+}
+
+/// Returns the outcomes of several failures, in their order, each as [`look_at`] returns it.
+///
+/// Failures are analysed in parallel, as [`look_each`] does. `progress.looked` is called after each failure.
+///
+/// # Errors
+///
+/// Those of [`look_at`], and `Memory` if the list can't be allocated. After the first fault no further analysis begins,
+/// and a fault that was met is returned.
+pub(crate) fn look_at_all<R: Threads + Sync, V: FailureProgress>(
+    rt: &R,
+    alloc: Global,
+    standing: &Standing<'_>,
+    services: &[u8],
+    failures: &[Failure],
+    progress: &V,
+) -> Result<Vec<Outcome>, DriveFault>
+    requires { IsStanding standing.now }
+    ensures { IfOk result (λ outcomes. AllZip (IsOutcomeOn standing.now services.now) failures.now outcomes.items) }
+{
+    let look = |failure: Failure| -> Result<Outcome, DriveFault>
+        requires { IsStanding standing.now }
+        ensures { IfOk result (IsOutcomeOn standing.entry.now services.entry.now failure) }
+    { look_at(alloc, standing, services, failure) };
+    look_each(rt, alloc, failures, &look, progress)
+}

@@ -1,0 +1,5 @@
+//! A module for each subject.
+
+mod counted;
+mod pages;
+mod plans;
