@@ -311,11 +311,48 @@ same out/metro.svg docs/metro.svg
 runs out/nothing draw examples/metro.toml -o out/metro-file.svg
 ended 0
 same out/metro-file.svg docs/metro.svg
+runs out/trace-metro.svg trace examples/metro.toml provider ffffffffffff02000000010108000001 --format svg
+ended 0
+same out/trace-metro.svg docs/trace-metro.svg
+begin "the lists of services at links"
+runs out/lists.svg draw examples/access.toml --lists
+ended 0
+if [ "$(grep -c '<g id="ends-south1".*<tspan x="0" dy="13">office</tspan>' out/lists.svg)" != 1 ]; then
+    wrong "no list at south1"
+fi
 begin "draw does not overwrite its plan"
 cp examples/metro.toml out/kept.toml
 runs out/nothing draw out/kept.toml -o ./out/../out/kept.toml
 ended 2
 says out/errors "error: invalid value './out/../out/kept.toml' for '--output <PATH>': it is the plan file"
+same out/kept.toml examples/metro.toml
+
+# Nothing down, 10 links, 8 bridges and 45 pairs of links are a row each.
+begin "the page of a report"
+runs out/access.html report --bridges --pairs examples/access.toml
+ended 0
+[ "$(grep -c '^<tr data-states=' out/access.html)" = 64 ] || wrong "not 64 rows of failures"
+runs out/nothing report --bridges --pairs examples/access.toml -o out/access-file.html
+ended 0
+same out/access-file.html out/access.html
+begin "the page of a report on a change"
+runs out/change.html report examples/access-video.toml --diff examples/access.toml
+ended 0
+sed -n '/^<section id="change">/,/^<\/pre>/p' out/change.html |
+    sed '1,2d; s/^<pre>//; /^<\/pre>/d; s/&gt;/>/g' >out/change.said
+same out/change.said examples/diff.expected
+begin "a report on a plan that is refused"
+for words in "out/wrong.toml" "examples/metro.toml --diff out/wrong.toml"; do
+    # shellcheck disable=SC2086
+    runs out/unwritten.line report $words -o out/unwritten.html
+    ended 1
+    has_line out/unwritten.line "plan: [0-9]* unknown x"
+    missing out/unwritten.html
+done
+begin "report does not overwrite a plan"
+runs out/nothing report examples/access.toml --diff out/kept.toml -o out/kept.toml
+ended 2
+says out/errors "error: invalid value 'out/kept.toml' for '--output <PATH>': it is the plan file"
 same out/kept.toml examples/metro.toml
 
 begin "run record.toml"
@@ -450,7 +487,7 @@ echo "fault: read" | same out/endless -
 grep -q "more than 67108864 octets" out/errors || wrong "the reason is not told"
 
 begin "a folder for a plan file"
-for command in check step run tree survive draw; do
+for command in check step run tree survive draw report; do
     runs out/folder "$command" examples
     ended 3
     says out/folder "fault: read"

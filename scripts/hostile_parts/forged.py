@@ -10,7 +10,7 @@ from hostile_parts.plans import BRIDGE
 TEXTS = ["\nfault: memory", "x\nplan: 1 utf8\n", "\r\nok", "\x1b[31mred", "\x07", "\x7f", "\u0085", "\u009b1m", "\t\b"]
 TEXTS += ['"}\n{"a": "', "\\n\n", "\nforest yes\nfault: read\n"]
 COMMANDS = [["check"], ["check", "--all"], ["tree"], ["step"], ["draw"], ["survive"], ["run", "--seconds", "1"]]
-COMMANDS.append(["trace"])
+COMMANDS += [["trace"], ["report"]]
 FORMED = ["check", "tree", "step", "survive", "run", "trace"]
 SERVICE = '[[service]]\nname = "red"\nvid = 100\n'
 
@@ -48,6 +48,7 @@ def arguments(text):
             ["draw", "plan.toml", "-o", f"no/{text}"],
             ["survive", "--service", text, "plan.toml"], ["survive", "--from", text, "plan.toml"],
             ["survive", "--accept", text, "plan.toml"], ["survive", "--accept", "accept.toml", "plan.toml"],
+            ["report", "--diff", text, "plan.toml"], ["report", text], ["report", "plan.toml", "-o", f"no/{text}"],
             ["diff", text, "plan.toml"], ["diff", "--service", text, "plan.toml", "plan.toml"],
             ["trace", "plan.toml", text], ["trace", "plan.toml", "C1", text], ["trace", "plan.toml", "C1", "--to", text],
             ["check", text], ["run", text], ["run", "--control", f"no/{text}", "--seconds", "1", "plan.toml"],

@@ -135,12 +135,14 @@ def tests(part):
             part.judge("step --test, mutated", why, room, ended)
 
 
-COMMANDS = ["flat", "show", "init", "check", "tree", "trace", "survive", "diff", "draw", "step", "run", "control"]
+COMMANDS = ["flat", "show", "init", "check", "tree", "trace", "survive", "diff", "draw", "report", "step", "run"]
+COMMANDS.append("control")
 OPTIONS = ["--strict", "--all", "--settle", "--ticks", "--format", "json", "csv", "svg", "dot", "--down", "L1", "B1:1"]
 OPTIONS += ["--service", "lan", "--pairs", "--bridges", "--from", "C1", "--accept", "plan.toml", "-o", "picture", "--"]
-OPTIONS += ["--seconds", "1", "--linger", "0", "--test", "--to", "--ctag", "5:7", "--length", "14", "--then", "-1", "3"]
+OPTIONS += ["--seconds", "1", "--linger", "0", "--test", "--to", "--diff", "--ctag", "5:7", "--length", "14", "--then"]
 OPTIONS += ["", "-", "--ring", "--line", "99999999999999999999", "é", "a\nb", "--help", "-h", "-V", "x" * 100_000]
 OPTIONS += ["plan.toml", "plan.toml", "plan.toml", "ffffffffffff02000000010108004142", "--x=y", "--format=json"]
+OPTIONS += ["-1", "3"]
 PLAN = '[[bridge]]\nname = "B1"\naddress = "02-00-00-00-00-01"\n[[service]]\nname = "lan"\nvid = 100\n'
 PLAN += '[[port]]\nname = "C1"\nbridge = "B1"\nport = 3\nservice = "lan"\n'
 

@@ -34,6 +34,8 @@ VERDICTS = {
     "trace": ["trace", "plan.toml", "C1", BROADCAST], "trace --settle": ["trace", "--settle", "ring.toml", "C1"],
     "trace --format json": ["trace", *JSON, "plan.toml", "C1", BROADCAST, "--then", "C2", BROADCAST],
     "trace --settle --format json": ["trace", "--settle", *JSON, "ring.toml", "C1"],
+    "trace --format svg": ["trace", "--format", "svg", "plan.toml", "C1", BROADCAST, "--then", "C2", BROADCAST],
+    "trace --settle --format svg": ["trace", "--settle", "--format", "svg", "ring.toml", "C1"],
     "survive": ["survive", "ring.toml"], "survive --format json": ["survive", *JSON, "ring.toml"],
     "survive --format csv": ["survive", "--format", "csv", "ring.toml"],
     "survive --bridges": ["survive", "--bridges", ACCESS],
@@ -46,6 +48,8 @@ VERDICTS = {
     "diff": ["diff", ACCESS, VIDEO], "diff --format json": ["diff", *JSON, ACCESS, VIDEO],
     "diff --bridges --pairs": ["diff", *FAILURES, "plan.toml", "ring.toml"],
     "diff --bridges --pairs --format json": ["diff", *FAILURES, *JSON, "plan.toml", "ring.toml"],
+    "report": ["report", "plan.toml"], "report --bridges --pairs": ["report", *FAILURES, "ring.toml"],
+    "report --diff": ["report", "--diff", "plan.toml", "ring.toml"],
 }
 # Commands that print no report: an argument or a plan is wrong, or the picture goes to a file.
 OTHERS = {
@@ -53,7 +57,7 @@ OTHERS = {
     "a name that the plan lacks": ["tree", "--down", "rng1", "ring.toml"],
     "a service that the plan lacks": ["survive", "--service", "x", "ring.toml"],
     "a plan that is refused": ["check", EXAMPLES / "broken" / "misspelt.toml"], "a missing plan": ["tree", "none"],
-    "draw -o": ["draw", "ring.toml", "-o", "picture"],
+    "draw -o": ["draw", "ring.toml", "-o", "picture"], "report -o": ["report", "plan.toml", "-o", "picture"],
 }
 ANSWERS = {"flat": ["flat", "3"], "step": ["step", EXAMPLES / "e-lan.toml"],
            "step --format json": ["step", *JSON, EXAMPLES / "e-lan.toml"],
@@ -83,6 +87,6 @@ def attack(part):
     for rows, check in ((VERDICTS, wrong_verdict), (OTHERS, wrong_verdict), (ANSWERS, wrong_answer)):
         for kind, words in rows.items():
             setting = (library, files, given.get(kind, b""), part.times(200))
-            refusals.sweep(part, kind, words, wrong_picture if kind == "draw -o" else check, setting)
+            refusals.sweep(part, kind, words, wrong_picture if kind.endswith(" -o") else check, setting)
     memory_runs.attack(part, library, files)
     library.unlink()

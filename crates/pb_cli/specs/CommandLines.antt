@@ -8,7 +8,7 @@ use Rattle.pb_cli.specs.declared.init_options.InitOptions.{InitOptions}
 use Rattle.pb_cli.specs.declared.trace_options.TraceOptions.{TraceOptions}
 use Rattle.pb_cli.specs.declared.command_line.CommandLine.{CommandLine}
 use Rattle.pb_cli.specs.declared.command_line.CommandLine.TheVariants.{Flat, Check, Step, Run, Tree, Trace}
-use Rattle.pb_cli.specs.declared.command_line.CommandLine.TheVariants.{Show, Init, Survive, Diff, Draw, Control}
+use Rattle.pb_cli.specs.declared.command_line.CommandLine.TheVariants.{Show, Init, Survive, Diff, Draw, Report, Control}
 
 -- a run is stopped after 1 to 1,000,000,000 seconds, or not
 abbrev pub AreSeconds : Option ℕ → Type 0
@@ -74,6 +74,7 @@ HasValidArguments (Init options) = AreInitOptions options
 HasValidArguments (Survive options) = AreTicks options.ticks
 HasValidArguments (Diff options) = AreTicks options.ticks
 HasValidArguments (Draw options) = AreTicks options.ticks
+HasValidArguments (Report options) = AreTicks options.ticks
 HasValidArguments (Control control) = Unit {0}
 
 -- the command line of a command over the plan file at a path, with numbers in their ranges
@@ -91,4 +92,6 @@ IsPlanCommandLine command path (Survive options) =
     (command ≡ codes "survive") × (string_bytes options.path ≡ path) × AreTicks options.ticks
 IsPlanCommandLine command path (Draw options) =
     (command ≡ codes "draw") × (string_bytes options.path ≡ path) × AreTicks options.ticks
+IsPlanCommandLine command path (Report options) =
+    (command ≡ codes "report") × (string_bytes options.path ≡ path) × AreTicks options.ticks
 IsPlanCommandLine command path _ = ⊥

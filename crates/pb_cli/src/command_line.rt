@@ -9,6 +9,7 @@ use crate::control_options::{ControlOptions, control_options};
 use crate::diff_options::{DiffOptions, diff_options};
 use crate::draw_options::{DrawOptions, draw_options};
 use crate::init_options::{InitOptions, init_options};
+use crate::page_options::{PageOptions, page_options};
 use crate::plan_help::plan_help;
 use crate::report_options::{ReportOptions, report_options};
 use crate::run_options::{RunOptions, run_options};
@@ -19,7 +20,7 @@ use clap::{ArgMatches, Command, Error};
 use std::alloc::{AllocError, Global};
 
 /// The version of the program.
-pub const VERSION: &str = "0.15.0";
+pub const VERSION: &str = "0.16.0";
 
 /// A parsed command line: the command with its options.
 #[derive(PartialEq, Eq, Debug, Drop)]
@@ -46,6 +47,8 @@ pub enum CommandLine {
     Diff(DiffOptions),
     /// `draw`: a picture of the network of a plan file.
     Draw(DrawOptions),
+    /// `report`: a page about the network of a plan file.
+    Report(PageOptions),
     /// `control`: commands for a running network.
     Control(ControlOptions),
 }
@@ -93,6 +96,9 @@ fn plan_command_line(
     }
     if command == "draw" {
         return Ok(Some(CommandLine::Draw(draw_options(alloc, path, given)?)));
+    }
+    if command == "report" {
+        return Ok(Some(CommandLine::Report(page_options(alloc, path, given)?)));
     }
     if command == "survive" {
         return Ok(Some(CommandLine::Survive(survive_options(alloc, path, given)?)));

@@ -5,6 +5,7 @@ use crate::control_options::{self, CONTROL};
 use crate::diff_options::{self, DIFF};
 use crate::draw_options::{self, DRAW};
 use crate::init_options::{self, INIT};
+use crate::page_options::{self, REPORT};
 use crate::report_options::{self, STEP};
 use crate::run_options::{self, RUN};
 use crate::survive_options::{self, SURVIVE};
@@ -79,6 +80,11 @@ const PLANNING: &[CommandRow] = &[
         name: "draw",
         about: DRAW,
         arguments: draw_options::ARGUMENTS,
+    },
+    CommandRow {
+        name: "report",
+        about: REPORT,
+        arguments: page_options::ARGUMENTS,
     },
     CommandRow {
         name: "trace",

@@ -4,8 +4,7 @@ ghost use Rattle.std.specs.Prelude.{◌≡◌, IfOk, IfSome, string_bytes};
 ghost use Rattle.pb_cli.specs.CommandLines.{AreTraceOptions};
 
 use crate::arguments::{
-    AS_DOCUMENT, DOWNS, PLAN_FILE, ReportFormat, SETTLE_LIMIT, downs_of, report_format_of,
-    settle_of,
+    DOWNS, PLAN_FILE, ReportFormat, SETTLE_LIMIT, downs_of, report_format_of, settle_of,
 };
 use crate::frame_arguments::{self, TraceFrame, trace_frame};
 use crate::table::{Argument, Takes};
@@ -25,6 +24,9 @@ const HEX: &str =
 
 /// The help of `--then`.
 const THEN: &str = "Inject another frame once the one before is traced; may be repeated";
+
+/// The help of `--format`.
+const FORMAT: &str = "Format of the trace; svg is a picture [default: text]";
 
 /// The help of `--settle`.
 const SETTLE: &str = "Let the bridges converge first (RSTP), for at most N ticks of --ticks";
@@ -61,7 +63,13 @@ pub(crate) const ARGUMENTS: &[Argument] = &[
         excludes: &[],
     },
     DOWNS,
-    AS_DOCUMENT,
+    Argument {
+        name: "format",
+        value: "FORM",
+        help: FORMAT,
+        takes: Takes::Name(&["text", "json", "svg"]),
+        excludes: &[],
+    },
     Argument {
         name: "settle",
         value: "",
@@ -94,7 +102,9 @@ pub struct TraceOptions {
     pub downs: Vec<String>,
     /// The most ticks of each bridge until convergence, 1 to 1,000,000. None: the bridges do not converge first.
     pub settle: Option<u32>,
-    /// The form in which the trace is printed, text or JSON.
+    /// Whether the trace is drawn as an SVG picture.
+    pub picture: bool,
+    /// The form in which the trace is printed, text or JSON. Text for a picture.
     pub format: ReportFormat,
 }
 
@@ -157,6 +167,14 @@ fn entries_of(
     Ok(entries)
 }
 
+/// Checks whether the trace is drawn as an SVG picture.
+fn is_picture(given: &ArgMatches<'_>) -> bool {
+    match given.get_str("format") {
+        Some(name) => name == "svg",
+        None => false,
+    }
+}
+
 /// Returns the options of `trace` for the plan file at a path. None is never returned, because a required argument has
 /// a value; no contract says so.
 ///
@@ -186,6 +204,7 @@ pub(crate) fn trace_options(
         frame,
         downs,
         settle: settle_of(given),
+        picture: is_picture(given),
         format: report_format_of(given),
     }))
 }

@@ -1,5 +1,6 @@
 -- Networks that are watched, round after round.
-use Rattle.std.proofs.Common.{◌≡◌, ◌⊎◌, inl, inr, ◌≤◌, ◌<◌, ◌+◌, ◌-◌, ◌*◌, ◌%◌, ◌/◌, ℕ, true, false, List, refl, sym, ap, ◌∙◌}
+use Rattle.std.proofs.Common.{◌≡◌, ◌⊎◌, inl, inr, ◌≤◌, ◌<◌, ◌+◌, ◌-◌, ◌*◌, ◌%◌, ◌/◌, ℕ, true, false, List, refl, sym}
+use Rattle.std.proofs.Common.{ap, ◌∙◌}
 use Rattle.std.proofs.Common.{subst, arith}
 use Rattle.std.proofs.lemmas.Nat.{div-add-mod'}
 use Rattle.std.specs.List.{list_all}
@@ -52,7 +53,8 @@ pub record IsWatched (most rounds : ℕ) (w : Watch) (old new : NetView) : Type 
   pub end : (w.end ≡ most) ⊎ IsFound most w.end rounds old new
 
 -- before the first round
-pub watched-first : (most : ℕ) (w : Watch) (old : NetView) → w.marked ≡ 0 → w.machines.items ≡ machines_in old.plan old.rec
+pub watched-first : (most : ℕ) (w : Watch) (old : NetView) → w.marked ≡ 0
+    → w.machines.items ≡ machines_in old.plan old.rec
     → w.end ≡ most → w.most ≡ most → (w.is_open ≡ true → old.is_kept ≡ false)
     → (w.is_open ≡ true → list_all is_lossless old.plan.links ≡ true)
     → IsWatched most 0 w old old

@@ -29,8 +29,10 @@ still event old new e not = record {
 quiet_port : (bridge : ℕ) (net : NetView) → ((port : ℕ) → IsNumber port 16 → IsQuiet net (Receive bridge port))
     → ((port : ℕ) → IsNumber port 16 → IsQuiet net (Transmit bridge port)) → (event : Event) → IsAtPorts bridge event
     → IsNotDue net event
-quiet_port bridge net receives transmits event (n, range, inl is) = subst (λ x. IsNotDue net x) (sym is) (receives n range)
-quiet_port bridge net receives transmits event (n, range, inr is) = subst (λ x. IsNotDue net x) (sym is) (transmits n range)
+quiet_port bridge net receives transmits event (n, range, inl is) = subst (λ x. IsNotDue net x) (sym is)
+    (receives n range)
+quiet_port bridge net receives transmits event (n, range, inr is) = subst (λ x. IsNotDue net x) (sym is)
+    (transmits n range)
 
 quiet_lane : (lane : ℕ) (net : NetView) → IsQuiet net (Take lane) → IsQuiet net (Put lane) → (event : Event)
     → IsAtLane lane event → IsNotDue net event

@@ -163,10 +163,10 @@ pub fn stand(net: &mut Net, plan: &Plan, ticks: u32, events: u64) -> Result<(), 
 ///
 /// In each round every bridge ticks once, in the plan's order, and [`drain`] performs all that is due then. The rounds
 /// end when the bridges are settled after two in a row, or after `most` of them. They end earlier if the network only
-/// counts its steps, no link loses frames, the machines of the bridges are again what they were some rounds before, and a
-/// whole number of such periods is left: after `most` rounds the machines would be the same. The result is `Given`, and nothing is done, if the plan
-/// gives the states of the ports. It is `Unsettled` for each `most` below 2, and else only if the bridges were not
-/// settled after the last round or after the one before it.
+/// counts its steps, no link loses frames, the machines of the bridges are again what they were some rounds before, and
+/// a whole number of such periods is left: after `most` rounds the machines would be the same. The result is `Given`,
+/// and nothing is done, if the plan gives the states of the ports. It is `Unsettled` for each `most` below 2, and else
+/// only if the bridges were not settled after the last round or after the one before it.
 ///
 /// # Errors
 ///

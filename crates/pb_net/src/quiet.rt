@@ -40,8 +40,8 @@ impl Net {
         true
     }
 
-    /// Returns whether no Take and no Put of a lane is due: its hand is empty and nothing waits at its beginning, or the
-    /// inbox at its end is full. Allocates nothing.
+    /// Returns whether no Take and no Put of a lane is due: its hand is empty and nothing waits at its beginning, or
+    /// the inbox at its end is full. Allocates nothing.
     pub fn is_lane_quiet(&self, lane: u8) -> bool
         ensures take { result ≡ true → IsQuiet self.now (Event.Take lane) }
         ensures put { result ≡ true → IsQuiet self.now (Event.Put lane) }

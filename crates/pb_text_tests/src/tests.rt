@@ -9,6 +9,7 @@ mod frame_options;
 mod line_words;
 mod lines;
 mod losses;
+mod report_arguments;
 mod survive_arguments;
 mod transit;
 mod wanted;

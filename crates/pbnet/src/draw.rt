@@ -72,6 +72,16 @@ fn is_one_file(rt: &impl Files, first: &str, second: &str) -> bool {
     }
 }
 
+/// Returns whether a path names one of the files at other paths.
+fn is_one_of(rt: &impl Files, paths: &[&str], path: &str) -> bool {
+    for one in paths {
+        if is_one_file(rt, one, path) {
+            return true;
+        }
+    }
+    false
+}
+
 /// Writes a picture to a file, or the refusal that replaces it to the writer of reports.
 ///
 /// # Errors
@@ -86,24 +96,24 @@ fn put<W: Write>(
     out: &mut W,
 ) -> Result<(), ExitCode> {
     let written = match drawn {
-        Ok(DrawEnd::Drawn(_)) => save(rt, plan, output, text)?,
+        Ok(DrawEnd::Drawn(_)) => save(rt, &[plan], output, text)?,
         _ => out.write_all(text),
     };
     written.map_err(|_| tell(rt, CommandFault::Write))
 }
 
-/// Writes a picture to a file that is not the plan file. Returns the result of the write.
+/// Writes a picture or a page to a file that is none of these plan files. Returns the result of the write.
 ///
 /// # Errors
 ///
-/// The exit status, after a message: 2 if the file is the plan file, 3 if it cannot be opened.
-fn save(
+/// The exit status, after a message: 2 if the file is a plan file, 3 if it cannot be opened.
+pub(crate) fn save(
     rt: &(impl Files + Print + Eprint + AllocGlobal),
-    plan: &str,
+    plans: &[&str],
     output: &str,
     text: &[u8],
 ) -> Result<io::Result<()>, ExitCode> {
-    if is_one_file(rt, plan, output) {
+    if is_one_of(rt, plans, output) {
         complain(
             rt,
             format!(in rt.alloc();

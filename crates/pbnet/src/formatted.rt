@@ -17,8 +17,8 @@ fn is_memory_refusal(text: &[u8]) -> bool {
     text == b"plan: 11 memory\n".as_slice()
 }
 
-/// Returns whether a line of a script's report says that memory was short. The lines of ports, links, loops and a refused
-/// plan hold names of the plan, and say no such thing.
+/// Returns whether a line of a script's report says that memory was short. The lines of ports, links, loops and a
+/// refused plan hold names of the plan, and say no such thing.
 fn is_about_memory(line: &str) -> bool {
     let about_names = ["port ", "link ", "loop ", "plan: "];
     !about_names.iter().any(|lead| line.starts_with(*lead))
@@ -95,8 +95,8 @@ impl<'a, R: Print + AllocGlobal> Output<'a, R> {
         Ok(json.into_bytes())
     }
 
-    /// Returns whether memory was short in the report of a script that is to become a table: it says so in replies, which
-    /// a table lacks.
+    /// Returns whether memory was short in the report of a script that is to become a table: it says so in replies,
+    /// which a table lacks.
     pub(crate) fn hides_memory(&self) -> bool {
         match str::from_utf8(self.kept.as_slice()) {
             Ok(text) => self.format == ReportFormat::Csv && text.lines().any(is_about_memory),
@@ -104,7 +104,8 @@ impl<'a, R: Print + AllocGlobal> Output<'a, R> {
         }
     }
 
-    /// Returns how a run ended, if it is to become a table, which does not say so, and it was neither drained nor stopped.
+    /// Returns how a run ended, if it is to become a table, which does not say so, and it was neither drained nor
+    /// stopped.
     pub(crate) fn hidden_end(&self) -> Option<&str> {
         let Ok(text) = str::from_utf8(self.kept.as_slice()) else {
             return None;

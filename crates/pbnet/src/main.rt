@@ -22,6 +22,7 @@ mod messages;
 mod noted;
 mod progress;
 mod refusal;
+mod report;
 mod standard;
 mod step;
 mod survive;
@@ -95,6 +96,9 @@ fn main(rt: HostRuntime) -> ExitCode {
             diff::tell_diff(&rt, &options, rt.stderr().is_terminal())
         }
         Ok(Some(CommandLine::Draw(options))) => draw::draw_network(&rt, &options),
+        Ok(Some(CommandLine::Report(options))) => {
+            report::report(&rt, &options, rt.stderr().is_terminal())
+        }
         Ok(Some(CommandLine::Control(options))) => control::control(&rt, &options),
         Ok(None) => ExitCode::from(WRONG_ARGUMENTS),
         Err(e) => refuse(&rt, e),

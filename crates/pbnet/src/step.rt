@@ -15,8 +15,8 @@ use std::process::ExitCode;
 const BUFFER: usize = 65_536;
 
 /// Drives the network of a plan file by the script on standard input, and prints the report in the form of the options.
-/// If `by_line`, each answer is printed at once. The findings of a test go to `errors`. If the form is a table and memory
-/// was short, no table is printed, and `fault: memory` goes to `errors`. Returns the exit status.
+/// If `by_line`, each answer is printed at once. The findings of a test go to `errors`. If the form is a table and
+/// memory was short, no table is printed, and `fault: memory` goes to `errors`. Returns the exit status.
 pub(crate) fn step<R: Files + Input + Print + Eprint + AllocGlobal, E: Write>(
     rt: &R,
     options: &ReportOptions,

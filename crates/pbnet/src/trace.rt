@@ -12,6 +12,7 @@ use pb_export::TRACE;
 use pb_lan::Spanning;
 use pb_messages::CommandFault;
 use pb_service::{PlanFault, read_plan};
+use pb_trace_svg::run_trace_svg;
 use std::alloc::{AllocError, Global};
 use std::fs::Files;
 use std::io::Write;
@@ -109,7 +110,12 @@ fn trace_on<R: Files + Eprint + AllocGlobal, W: Write>(
         downs: options.downs.as_slice(),
         settle: options.settle,
     };
-    match run_trace(rt.alloc(), file.as_slice(), &asked, out) {
+    let told = if options.picture {
+        run_trace_svg(rt.alloc(), file.as_slice(), &asked, out)
+    } else {
+        run_trace(rt.alloc(), file.as_slice(), &asked, out)
+    };
+    match told {
         Err(fault) => Ok(tell_on(out, fault)),
         Ok(TraceEnd::Told) => {
             note_unsettled(rt, file.as_slice(), options.settle);

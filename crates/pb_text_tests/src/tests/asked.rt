@@ -1,8 +1,8 @@
 //! The harness: it parses the arguments of a command line and checks the command.
 
-use super::wanted::{Change, Described, Look, Of, Picture, Row, Run, Wanted};
+use super::wanted::{Change, Described, Look, Of, Page, Picture, Row, Run, Wanted};
 use pb_cli::{
-    CheckOptions, CommandLine, ControlOptions, DiffOptions, DrawOptions, ReportFormat,
+    CheckOptions, CommandLine, ControlOptions, DiffOptions, DrawOptions, PageOptions, ReportFormat,
     ReportOptions, RunOptions, SurviveOptions, SurviveScope, TraceEntry, TraceFrame, TraceOptions,
     TreeOptions, command_line_of,
 };
@@ -120,7 +120,13 @@ fn is_trace(
         && are_texts(&told.downs, downs)
         && told.frame.is_none()
         && told.settle == settle
+        && !told.picture
         && told.format == ReportFormat::Text
+}
+
+/// Returns whether these are the options of `trace` with a picture.
+fn is_trace_picture(told: &TraceOptions, path: &str) -> bool {
+    told.path.as_str() == path && told.picture && told.format == ReportFormat::Text
 }
 
 /// Returns whether this is the described frame.
@@ -194,6 +200,16 @@ fn is_picture(told: &DrawOptions, picture: &Picture) -> bool {
         && is_text(told.output.as_ref(), picture.output)
 }
 
+/// Returns whether these are the options of the page.
+fn is_page(told: &PageOptions, page: &Page) -> bool {
+    told.path.as_str() == page.path
+        && told.bridges == page.bridges
+        && told.pairs == page.pairs
+        && told.ticks == page.ticks
+        && is_text(told.old.as_ref(), page.old)
+        && is_text(told.output.as_ref(), page.output)
+}
+
 /// Returns whether these are the options of `control`.
 fn is_control(told: &ControlOptions, path: &str, arguments: &[&str]) -> bool {
     told.path.as_str() == path && are_texts(told.arguments.as_slice(), arguments)
@@ -213,6 +229,7 @@ fn format_of(line: &CommandLine) -> Option<ReportFormat> {
         | CommandLine::Show
         | CommandLine::Init(_)
         | CommandLine::Draw(_)
+        | CommandLine::Report(_)
         | CommandLine::Control(_) => None,
     }
 }
@@ -237,12 +254,14 @@ fn is_so(line: &CommandLine, wanted: &Wanted) -> bool {
         (Wanted::Trace(path, frames, downs, settle), CommandLine::Trace(told)) => {
             is_trace(told, path, frames, downs, *settle)
         }
+        (Wanted::TracePicture(path), CommandLine::Trace(told)) => is_trace_picture(told, path),
         (Wanted::Described(path, port, frame), CommandLine::Trace(told)) => {
             is_described(told, path, port, frame)
         }
         (Wanted::Survive(look), CommandLine::Survive(told)) => is_look(told, look),
         (Wanted::Diff(change), CommandLine::Diff(told)) => is_change(told, change),
         (Wanted::Draw(picture), CommandLine::Draw(told)) => is_picture(told, picture),
+        (Wanted::Report(page), CommandLine::Report(told)) => is_page(told, page),
         (Wanted::Show, CommandLine::Show) => true,
         (Wanted::Init(network, services), CommandLine::Init(told)) => {
             told.network == *network && told.services == *services

@@ -32,6 +32,10 @@ fn reports_have_forms(rt: HostRuntime) -> Result<(), Fail> {
         (&["tree", "a", "--format=csv"], WRONG),
         (&["trace", "a", "C1", "ff", "--format=json"], JSON),
         (&["trace", "a", "C1", "ff", "--format=csv"], WRONG),
+        (
+            &["trace", "a", "C1", "ff", "--format=svg"],
+            Wanted::TracePicture("a"),
+        ),
         (&["survive", "a", "--format=json"], JSON),
         (&["survive", "a", "--format=csv"], CSV),
         (&["diff", "a", "b", "--format=json"], JSON),

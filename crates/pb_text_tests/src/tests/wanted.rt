@@ -95,6 +95,20 @@ pub(super) struct Picture {
     pub(super) output: Option<&'static str>,
 }
 
+/// A page about the network of a plan file.
+#[derive(Clone, Copy)]
+pub(super) struct Page {
+    pub(super) path: &'static str,
+    pub(super) bridges: bool,
+    pub(super) pairs: bool,
+    /// The maximum number of ticks.
+    pub(super) ticks: u32,
+    /// The path of the plan before the change, if there is one.
+    pub(super) old: Option<&'static str>,
+    /// The path of the page, or `None` for standard output.
+    pub(super) output: Option<&'static str>,
+}
+
 /// The command that arguments ask for. Each report is a text.
 #[derive(Clone, Copy)]
 pub(super) enum Wanted {
@@ -119,11 +133,14 @@ pub(super) enum Wanted {
         &'static [&'static str],
         Option<u32>,
     ),
+    /// `trace --format svg` over this plan file.
+    TracePicture(&'static str),
     Survive(Look),
     /// `trace` with a frame that options describe: a path, a port and the frame.
     Described(&'static str, &'static str, Described),
     Diff(Change),
     Draw(Picture),
+    Report(Page),
     Show,
     /// The network of a starter plan, and the number of services.
     Init(InitNetwork, u8),
