@@ -1,4 +1,4 @@
-# Completions of pbnet for bash. scripts/manual.py made them from the help of pbnet 0.15.0.
+# Completions of pbnet for bash. scripts/manual.py made them from the help of pbnet 0.16.0.
 
 # Sets `options` to the options of the command $1, and `places` to what each of its arguments can be: words, or @file.
 # Sets `repeats` if the last argument can be repeated.
@@ -7,7 +7,7 @@ _pbnet_command()
     case $1 in
         '')
             options='-h --help -V --version'
-            places=('flat check step run control tree survive diff draw trace show init help')
+            places=('flat check step run control tree survive diff draw report trace show init help')
             ;;
         flat)
             options='-h --help'
@@ -46,6 +46,10 @@ _pbnet_command()
             options='--service --down --lists --format -o --output --ticks -h --help'
             places=(@file)
             ;;
+        report)
+            options='--pairs --bridges --diff -o --output --ticks -h --help'
+            places=(@file)
+            ;;
         trace)
             options='--to --from --ctag --pcp --bpdu --ethertype --length --then --down --format --settle --ticks -h --help'
             places=(@file '' '')
@@ -59,7 +63,7 @@ _pbnet_command()
             places=()
             ;;
         help)
-            places=('flat check step run control tree survive diff draw trace show init')
+            places=('flat check step run control tree survive diff draw report trace show init')
             ;;
     esac
 }
@@ -92,6 +96,9 @@ _pbnet_option()
         'draw --format') follows=('svg dot') ;;
         'draw -o' | 'draw --output') follows=(@file) ;;
         'draw --ticks') follows=('') ;;
+        'report --diff') follows=('') ;;
+        'report -o' | 'report --output') follows=(@file) ;;
+        'report --ticks') follows=('') ;;
         'trace --to') follows=('') ;;
         'trace --from') follows=('') ;;
         'trace --ctag') follows=('') ;;
@@ -100,7 +107,7 @@ _pbnet_option()
         'trace --length') follows=('') ;;
         'trace --then') follows=('' '') ;;
         'trace --down') follows=('') ;;
-        'trace --format') follows=('text json') ;;
+        'trace --format') follows=('text json svg') ;;
         'trace --ticks') follows=('') ;;
         'init --line') follows=('') ;;
         'init --ring') follows=('') ;;

@@ -1,4 +1,4 @@
-# Completions of pbnet for fish. scripts/manual.py made them from the help of pbnet 0.15.0.
+# Completions of pbnet for fish. scripts/manual.py made them from the help of pbnet 0.16.0.
 
 complete -c pbnet -f
 complete -c pbnet -n __fish_use_subcommand -s h -l help -d 'Print help'
@@ -12,6 +12,7 @@ complete -c pbnet -n __fish_use_subcommand -a tree -d 'Print the spanning tree a
 complete -c pbnet -n __fish_use_subcommand -a survive -d 'Fail each link in turn and report disconnected sites'
 complete -c pbnet -n __fish_use_subcommand -a diff -d 'Compare two plans and what their networks do under failures'
 complete -c pbnet -n __fish_use_subcommand -a draw -d 'Draw the network as SVG or Graphviz'
+complete -c pbnet -n __fish_use_subcommand -a report -d 'Write a page in HTML about the network and its failures'
 complete -c pbnet -n __fish_use_subcommand -a trace -d 'Trace a frame hop by hop'
 complete -c pbnet -n __fish_use_subcommand -a show -d 'Print how reserved group addresses are handled'
 complete -c pbnet -n __fish_use_subcommand -a init -d 'Print a starter plan'
@@ -74,6 +75,13 @@ complete -c pbnet -n '__fish_seen_subcommand_from draw' -s o -l output -r -F -d 
 complete -c pbnet -n '__fish_seen_subcommand_from draw' -l ticks -x -d 'Wait at most N ticks for convergence [default: 200] [range: 1-1000000]'
 complete -c pbnet -n '__fish_seen_subcommand_from draw' -s h -l help -d 'Print help'
 complete -c pbnet -n '__fish_seen_subcommand_from draw' -F
+complete -c pbnet -n '__fish_seen_subcommand_from report' -l pairs -d 'Also fail each pair of links'
+complete -c pbnet -n '__fish_seen_subcommand_from report' -l bridges -d 'Also fail each bridge, with all of its links'
+complete -c pbnet -n '__fish_seen_subcommand_from report' -l diff -x -d 'Also show the change from this plan file, as diff does'
+complete -c pbnet -n '__fish_seen_subcommand_from report' -s o -l output -r -F -d 'Write the page to this file [default: standard output]'
+complete -c pbnet -n '__fish_seen_subcommand_from report' -l ticks -x -d 'Wait at most N ticks for convergence [default: 200] [range: 1-1000000]'
+complete -c pbnet -n '__fish_seen_subcommand_from report' -s h -l help -d 'Print help'
+complete -c pbnet -n '__fish_seen_subcommand_from report' -F
 complete -c pbnet -n '__fish_seen_subcommand_from trace' -l to -x -d 'Destination: an address, broadcast, or a customer port for its station [default: broadcast]'
 complete -c pbnet -n '__fish_seen_subcommand_from trace' -l from -x -d 'Source address [default: the station of <PORT>, 02-00-00-00-01-NN]'
 complete -c pbnet -n '__fish_seen_subcommand_from trace' -l ctag -x -d 'Customer\'s tag, VID or VID:PCP [default: no tag, PCP 0] [range: VID 0-4094, PCP 0-7]'
@@ -83,7 +91,7 @@ complete -c pbnet -n '__fish_seen_subcommand_from trace' -l ethertype -x -d 'Eth
 complete -c pbnet -n '__fish_seen_subcommand_from trace' -l length -x -d 'Fill the frame with zeros to N octets [default: not filled] [range: 14-65535]'
 complete -c pbnet -n '__fish_seen_subcommand_from trace' -l then -x -d 'Inject another frame once the one before is traced; may be repeated'
 complete -c pbnet -n '__fish_seen_subcommand_from trace' -l down -x -d 'First disable a link, a bridge with all of its links, or one port BRIDGE:PORT; may be repeated'
-complete -c pbnet -n '__fish_seen_subcommand_from trace' -l format -x -a 'text json' -d 'Format of the report [default: text]'
+complete -c pbnet -n '__fish_seen_subcommand_from trace' -l format -x -a 'text json svg' -d 'Format of the trace; svg is a picture [default: text]'
 complete -c pbnet -n '__fish_seen_subcommand_from trace' -l settle -d 'Let the bridges converge first (RSTP), for at most N ticks of --ticks'
 complete -c pbnet -n '__fish_seen_subcommand_from trace' -l ticks -x -d 'Wait at most N ticks for convergence [default: 200] [range: 1-1000000]'
 complete -c pbnet -n '__fish_seen_subcommand_from trace' -s h -l help -d 'Print help'
@@ -95,4 +103,4 @@ complete -c pbnet -n '__fish_seen_subcommand_from init' -l star -x -d 'Connect N
 complete -c pbnet -n '__fish_seen_subcommand_from init' -l dual-homed -x -d 'Connect N access bridges to two bridges each of a ring of four, with RSTP [range: 2-24]'
 complete -c pbnet -n '__fish_seen_subcommand_from init' -l services -x -d 'Give N services a customer port at each site [default: 1] [range: 1-4]'
 complete -c pbnet -n '__fish_seen_subcommand_from init' -s h -l help -d 'Print help'
-complete -c pbnet -n '__fish_seen_subcommand_from help' -a 'flat check step run control tree survive diff draw trace show init'
+complete -c pbnet -n '__fish_seen_subcommand_from help' -a 'flat check step run control tree survive diff draw report trace show init'
