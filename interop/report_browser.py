@@ -87,8 +87,8 @@ def facing(svg):
 def want_states(browser, what, plan, names):
     """Compares the shown picture with that of `draw --down` for these names.
 
-    The page fails a network that has converged, and `draw` a network that begins. So a port opposite a discarding one may
-    be forwarding in one of them alone.
+    The page fails a network that has converged, and `draw` a network that begins. So with two names a port opposite a
+    discarding one may be forwarding in one of them alone. With one name the plans of these tests show no such port.
     """
     downs = [it for name in names for it in ("--down", name)]
     svg = common.run("draw", *downs, plan)[0]
