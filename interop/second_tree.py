@@ -260,10 +260,14 @@ class Tree:
 
 
 def are_settled(trees, links):
-    """Returns whether each link with both ends enabled has one Designated end, whose vector the other end stores."""
+    """Returns whether each link with both ends enabled has one Designated end, whose vector the other end stores, and an
+    end that is enabled alone is Designated."""
     for (one, at_one), (two, at_two) in links:
         ends = [(trees[one], trees[one].ports[at_one]), (trees[two], trees[two].ports[at_two])]
-        if not all(port.up for _, port in ends):
+        enabled = [port for _, port in ends if port.up]
+        if len(enabled) < 2:
+            if any(port.role != DESIGNATED for port in enabled):
+                return False
             continue
         designated = [port.role == DESIGNATED for _, port in ends]
         if designated.count(True) != 1:

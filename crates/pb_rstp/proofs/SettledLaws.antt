@@ -239,7 +239,7 @@ rises plan machines net k link at (m, n, p, q, here, there, p_forwarding, q_forw
     (active_role p.role p.state sp.port.quiet p_forwarding) in
     let q_up = role_up n.id (root_vector n.id n.ports) q q.role sq.port.role
     (active_role q.role q.state sq.port.quiet q_forwarding) in
-    elim (numbered-All (IsSettledLink machines) plan.links k link at net.settled.links m n p q here there p_up q_up) [
+    elim ((numbered-All (IsSettledLink machines) plan.links k link at net.settled.links m n p q here there).both p_up q_up) [
       | inl leads ↦ inl (rise plan machines net k link at link.a link.b (inr refl) m n p q here there leads
           q_forwarding)
       | inr leads ↦ inr (rise plan machines net k link at link.b link.a (inl refl) n m q p there here leads

@@ -52,11 +52,17 @@ pub record LeadsTo (m : Machine) (p : Port) (q : Port) : Type 0 where
   pub there : is_designated q.role ≡ false
   pub stores : StoresOffer q m p
 
--- a link has converged: if both ends are enabled, one is Designated, and the other stores what that one offers
+-- a link between these two ports has converged: if both are enabled, one is Designated, and the other stores what that
+-- one offers; a port that is enabled alone is Designated, so it keeps nothing that it heard from the other
+pub record IsSettledBetween (m : Machine) (p : Port) (n : Machine) (q : Port) : Type 0 where
+  pub both : p.port_enabled ≡ true → q.port_enabled ≡ true → LeadsTo m p q ⊎ LeadsTo n q p
+  pub first_alone : p.port_enabled ≡ true → q.port_enabled ≡ false → is_designated p.role ≡ true
+  pub second_alone : p.port_enabled ≡ false → q.port_enabled ≡ true → is_designated q.role ≡ true
+
+-- a link has converged
 abbrev pub IsSettledLink : List Machine → LinkPlan → Type 0
 IsSettledLink machines link =
-    (m n : Machine) (p q : Port) → StandsAt machines link.a m p → StandsAt machines link.b n q
-    → p.port_enabled ≡ true → q.port_enabled ≡ true → LeadsTo m p q ⊎ LeadsTo n q p
+    (m n : Machine) (p q : Port) → StandsAt machines link.a m p → StandsAt machines link.b n q → IsSettledBetween m p n q
 
 -- a network has converged: each port has its role and state, and each link has converged
 pub record IsSettled (plan : Plan) (machines : List Machine) : Type 0 where
@@ -91,11 +97,16 @@ place_in port m = option_map (λ p. let place : Place = record { machine = m; po
 abbrev pub place_at : List Machine → End → Option Place
 place_at machines e = option_and_then (place_in e.port) (numbered machines e.bridge)
 
+-- a link has converged, as a test: whether its ends are enabled comes first
+abbrev pub is_settled_by : Bool → Bool → Place → Place → Bool
+is_settled_by true true a b = leads_test a.machine a.port b.port || leads_test b.machine b.port a.port
+is_settled_by true false a b = is_designated a.port.role
+is_settled_by false true a b = is_designated b.port.role
+is_settled_by false false a b = true
+
 -- a link between these two ports has converged, as a test
 abbrev pub is_settled_between : Option Place → Option Place → Bool
-is_settled_between (Some a) (Some b) =
-    not (a.port.port_enabled && b.port.port_enabled)
-    || leads_test a.machine a.port b.port || leads_test b.machine b.port a.port
+is_settled_between (Some a) (Some b) = is_settled_by a.port.port_enabled b.port.port_enabled a b
 is_settled_between None b = true
 is_settled_between (Some a) None = true
 

@@ -97,14 +97,20 @@ fn leads(here: &Standing, there: &Standing) -> bool
     here.port.role.is_designated() && !there.port.role.is_designated() && stores(here, &there.port)
 }
 
-/// Returns whether an end is disabled, or one end leads and the other stores its offer.
+/// Returns whether one of two enabled ends leads and the other stores its offer, or an end that is enabled alone is
+/// Designated, or both are disabled.
 fn is_settled_between(a: &Standing, b: &Standing) -> bool
     ensures { result ≡ is_settled_between (Some (place_of a.now)) (Some (place_of b.now)) }
 {
-    !(a.port.port_enabled && b.port.port_enabled) || leads(a, b) || leads(b, a)
+    match (a.port.port_enabled, b.port.port_enabled) {
+        (true, true) => leads(a, b) || leads(b, a),
+        (true, false) => a.port.role.is_designated(),
+        (false, true) => b.port.role.is_designated(),
+        (false, false) => true,
+    }
 }
 
-/// Returns whether the link has one Designated end and the other end stores its offer, or an end is disabled.
+/// Returns whether a link has converged. One with an end at which no machine has a port has.
 fn is_settled_link(bridges: &[&Rstp], link: &LinkPlan) -> bool
     ensures { result ≡ is_settled_between (place_at (map (λ m. m.now) bridges.now) link.now.a)
         (place_at (map (λ m. m.now) bridges.now) link.now.b) }
@@ -134,8 +140,9 @@ fn are_settled_links(bridges: &[&Rstp], links: &[LinkPlan]) -> bool
 }
 
 /// Returns whether the bridges of a plan are settled: each port has the role that follows from the vectors, only Root
-/// and Designated ports are Forwarding, and each link with both ends enabled has exactly one Designated end, whose
-/// vector the other end stores (IEEE 802.1D-2004 clause 17). Allocates nothing.
+/// and Designated ports are Forwarding, each link with both ends enabled has exactly one Designated end, whose vector
+/// the other end stores, and an end that is enabled alone is Designated: what it heard from the other end has aged out
+/// (IEEE 802.1D-2004 clause 17). Allocates nothing.
 ///
 /// An end of a link at which no machine has a port counts as settled. The clause on forests requires one machine for
 /// each bridge, in the plan's order, made for that plan. The result holds for this moment: bridges may settle and

@@ -13,7 +13,7 @@ use crate::vector::Vector;
 use pb_bpdu::Bpdu;
 
 /// A call's own change, before roles are computed.
-#[derive(Clone, Copy, PartialEq, Eq, Debug)]
+#[derive(Clone, Copy)]
 pub(crate) enum OwnChange {
     /// The port of this number receives a BPDU. The bridge has this root vector.
     Hearing { root: Vector, port: u8, bpdu: Bpdu },

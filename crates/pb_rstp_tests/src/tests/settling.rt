@@ -140,6 +140,24 @@ fn a_link_with_an_end_down_is_settled(rt: HostRuntime) -> Result<(), Fail> {
 }
 
 #[test]
+fn an_end_that_is_enabled_alone_settles_once_what_it_heard_has_aged_out(
+    rt: HostRuntime,
+) -> Result<(), Fail> {
+    let mut first = first_at_the_end(rt.alloc())?;
+    let mut second = second_at_the_end(rt.alloc())?;
+    let _ = first.admin(1, false)?;
+    for _ in 0..5u8 {
+        assert!(rt; !are_settled(rt.alloc(), &first, &second)?);
+        let _ = second.tick()?;
+    }
+    assert!(rt; !are_settled(rt.alloc(), &first, &second)?);
+    let _ = second.tick()?;
+    assert!(rt; are_settled(rt.alloc(), &first, &second)?);
+    assert!(rt; are_settled(rt.alloc(), &second, &first)?);
+    Ok(())
+}
+
+#[test]
 fn roles_alone_do_not_settle(rt: HostRuntime) -> Result<(), Fail> {
     let first = with_one_port(rt.alloc(), 1)?;
     let mut second = with_one_port(rt.alloc(), 2)?;
