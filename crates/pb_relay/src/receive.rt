@@ -192,6 +192,24 @@ impl Bridge {
     {
         let ports = &self.ports;
         let local = ports.at(index_of(port));
+        if let Some(load) = Load::unchanged(ports, local, &item.wire) {
+            return self.carry(port, item, vid, &load);
+        }
+        self.relay_formed(port, item, vid)
+    }
+
+    /// Relays an item as [`Bridge::relay`] does, in forms that it makes.
+    ///
+    /// It is never inlined, which keeps its caller short.
+    #[inline(never)]
+    fn relay_formed(&mut self, port: u8, item: Item, vid: u16) -> Option<Step>
+        requires used { is_used (port_at self.old.plan self.old.number port) ≡ true }
+        requires reserved { self.old.is_reserved ≡ true }
+        requires ruling { ruling spanning_tree self.old.plan self.old.number self.old.steps port item ≡ Carries vid }
+        ensures { HasTaken self.old port item result self.new }
+    {
+        let ports = &self.ports;
+        let local = ports.at(index_of(port));
         let load = Load::new(self.alloc, ports, local, &item.wire);
         match &load {
             Ok(load) => self.carry(port, item, vid, load),
@@ -200,6 +218,7 @@ impl Bridge {
     }
 
     /// Learns the source of an item, chooses its ports and queues its copies there.
+    #[inline(always)]
     fn carry(&mut self, port: u8, item: Item, vid: u16, load: &Load) -> Option<Step>
         requires used { is_used (port_at self.old.plan self.old.number port) ≡ true }
         requires reserved { self.old.is_reserved ≡ true }

@@ -120,16 +120,22 @@ fn tells_a_failed_read_at_each_call(rt: HostRuntime) {
 /// Limits, and the kept part of the line abcd.
 const CUT: &[(u8, &[u8])] = &[(0, b"a"), (1, b"ab"), (3, b"abcd"), (4, b"abcd")];
 
-/// Returns whether this part of the line abcd is kept, and the next line and the end follow.
+/// Returns whether this part of the line abcd is kept, both times that the line comes, and the next line and the end
+/// follow.
 fn cuts(alloc: Global, limit: u8, kept: &'static [u8]) -> Result<bool, LineFault> {
     let mut reader = Slow {
-        rest: b"abcd\nx\n",
+        rest: b"abcd\nabcd\nx\n",
         most: 100,
         calls: 0,
         fails_at: 100,
         kind: ErrorKind::Interrupted,
     };
-    let wanted = [(kept, Found::Line), (b"x", Found::Line), (b"", Found::End)];
+    let wanted = [
+        (kept, Found::Line),
+        (kept, Found::Line),
+        (b"x", Found::Line),
+        (b"", Found::End),
+    ];
     reads(alloc, &mut reader, limit, &wanted)
 }
 
