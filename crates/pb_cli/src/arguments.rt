@@ -73,6 +73,24 @@ pub(crate) const SETTLE_LIMIT: Argument = Argument {
     excludes: &[],
 };
 
+/// The argument by which each pair of links fails too.
+pub(crate) const PAIRS: Argument = Argument {
+    name: "pairs",
+    value: "",
+    help: "Also fail each pair of links",
+    takes: Takes::Nothing,
+    excludes: &[],
+};
+
+/// The argument by which each bridge fails too.
+pub(crate) const BRIDGES: Argument = Argument {
+    name: "bridges",
+    value: "",
+    help: "Also fail each bridge, with all of its links",
+    takes: Takes::Nothing,
+    excludes: &[],
+};
+
 /// The argument for a report of all failures.
 pub(crate) const ALL_FAILURES: Argument = Argument {
     name: "all-failures",

@@ -4,7 +4,8 @@ ghost use Rattle.std.specs.Prelude.{◌≡◌, IfOk, string_bytes};
 ghost use Rattle.pb_cli.specs.CommandLines.{AreTicks};
 
 use crate::arguments::{
-    ALL_FAILURES, AS_DOCUMENT, ReportFormat, TICK_LIMIT, report_format_of, text_of, ticks_of,
+    ALL_FAILURES, AS_DOCUMENT, BRIDGES, PAIRS, ReportFormat, TICK_LIMIT, report_format_of, text_of,
+    ticks_of,
 };
 use crate::table::{Argument, Takes};
 use clap::ArgMatches;
@@ -15,20 +16,8 @@ pub(crate) const DIFF: &str = "Compare two plans and what their networks do unde
 
 /// The arguments of `diff`.
 pub(crate) const ARGUMENTS: &[Argument] = &[
-    Argument {
-        name: "pairs",
-        value: "",
-        help: "Also fail each pair of links",
-        takes: Takes::Nothing,
-        excludes: &[],
-    },
-    Argument {
-        name: "bridges",
-        value: "",
-        help: "Also fail each bridge, with all of its links",
-        takes: Takes::Nothing,
-        excludes: &[],
-    },
+    PAIRS,
+    BRIDGES,
     Argument {
         name: "service",
         value: "NAME",

@@ -3,7 +3,7 @@
 ghost use Rattle.std.specs.Prelude.{◌≡◌, IfOk, string_bytes};
 ghost use Rattle.pb_cli.specs.CommandLines.{AreTicks};
 
-use crate::arguments::{PLAN_FILE, TICK_LIMIT, text_of, ticks_of};
+use crate::arguments::{BRIDGES, PAIRS, PLAN_FILE, TICK_LIMIT, text_of, ticks_of};
 use crate::table::{Argument, Takes};
 use clap::ArgMatches;
 use std::alloc::{AllocError, Global};
@@ -13,20 +13,8 @@ pub(crate) const REPORT: &str = "Write a page in HTML about the network and its 
 
 /// The arguments of `report`.
 pub(crate) const ARGUMENTS: &[Argument] = &[
-    Argument {
-        name: "pairs",
-        value: "",
-        help: "Also fail each pair of links",
-        takes: Takes::Nothing,
-        excludes: &[],
-    },
-    Argument {
-        name: "bridges",
-        value: "",
-        help: "Also fail each bridge, with all of its links",
-        takes: Takes::Nothing,
-        excludes: &[],
-    },
+    PAIRS,
+    BRIDGES,
     Argument {
         name: "diff",
         value: "OLD",

@@ -4,8 +4,8 @@ ghost use Rattle.std.specs.Prelude.{◌≡◌, IfOk, string_bytes};
 ghost use Rattle.pb_cli.specs.CommandLines.{AreTicks};
 
 use crate::arguments::{
-    ALL_FAILURES, AS_TABLE, DOWNS, PLAN_FILE, ReportFormat, TICK_LIMIT, downs_of, report_format_of,
-    text_of, ticks_of,
+    ALL_FAILURES, AS_TABLE, BRIDGES, DOWNS, PAIRS, PLAN_FILE, ReportFormat, TICK_LIMIT, downs_of,
+    report_format_of, text_of, ticks_of,
 };
 use crate::table::{Argument, Takes};
 use clap::ArgMatches;
@@ -13,12 +13,6 @@ use std::alloc::{AllocError, Global};
 
 /// The help of `survive`.
 pub(crate) const SURVIVE: &str = "Fail each link in turn and report disconnected sites";
-
-/// The help of `--pairs`.
-const PAIRS: &str = "Also fail each pair of links";
-
-/// The help of `--bridges`.
-const BRIDGES: &str = "Also fail each bridge, with all of its links";
 
 /// The help of `--own`.
 const OWN: &str = "Count the customer ports of a failed bridge as disconnected too";
@@ -40,20 +34,8 @@ const PRINT_ACCEPT: &str = "Print the tables [[accept]] of what was found, and n
 
 /// The arguments of `survive`.
 pub(crate) const ARGUMENTS: &[Argument] = &[
-    Argument {
-        name: "pairs",
-        value: "",
-        help: PAIRS,
-        takes: Takes::Nothing,
-        excludes: &[],
-    },
-    Argument {
-        name: "bridges",
-        value: "",
-        help: BRIDGES,
-        takes: Takes::Nothing,
-        excludes: &[],
-    },
+    PAIRS,
+    BRIDGES,
     Argument {
         name: "own",
         value: "",

@@ -9,12 +9,12 @@ ghost use Rattle.pb_cmd_report.specs.Failures.{failure_row};
 ghost use Rattle.pb_cmd_report.specs.Html.{cell_of};
 ghost use Rattle.pb_cmd_report.specs.Words.{rest_words};
 
+use crate::criteria::CRITERIA;
 use crate::html::put_cell;
 use crate::outcome::Outcome;
-use crate::parting::parts_view;
 use crate::states::put_states;
-use crate::words::{put_groups, put_rest_words};
-use pb_cmd_survive::{Failure, Impact, View, put_failure};
+use crate::words::put_rest_words;
+use pb_cmd_survive::{Failure, Impact, View, parts_view, put_failure, put_groups};
 use pb_converge::Rest;
 use pb_frame::Memory;
 use pb_lan::Plan;
@@ -49,7 +49,7 @@ fn put_parted_view(out: &mut String, plan: &Plan, old: &View, new: &View) -> Res
     ensures { OnOk result (string_bytes out.new ≡ string_bytes out.old
         ++ parted_view plan.now (old.now, new.now)) }
 {
-    if !parts_view(old, new) {
+    if !parts_view(CRITERIA, old, new) {
         return Ok(());
     }
     out.push_str(service_name(plan, new.service))?;

@@ -7,14 +7,12 @@
 
 mod asked;
 mod change;
-mod drive;
+mod criteria;
 mod end;
 mod failures;
 mod html;
-mod names;
 mod outcome;
 mod page;
-mod parting;
 mod picture;
 mod raise;
 mod report;

@@ -5,8 +5,7 @@ ghost use Rattle.std.specs.Prelude.{◌≡◌, IfOk};
 ghost use Rattle.pb_cmd_survive.specs.Impacts.{IsDriven, IsStanding};
 ghost use Rattle.pb_cmd_report.specs.Outcomes.{IsOutcomeOn, IsSeen};
 
-use crate::drive::drive;
-use pb_cmd_survive::{Failure, FailureProgress, Impact, Standing, look_each, views};
+use pb_cmd_survive::{Failure, FailureProgress, Impact, Standing, drive_into, look_each, views};
 use pb_converge::{DriveFault, Rest, shape_of};
 use pb_lan::Shape;
 use pb_net::Net;
@@ -65,7 +64,7 @@ pub(crate) fn look_at(
     requires { IsStanding standing.now }
     ensures { IfOk result (IsOutcomeOn standing.now services.now failure) }
 {
-    let (net, rest) = drive(alloc, standing, failure)?;
+    let (net, rest) = drive_into(alloc, standing, failure)?;
     seen_in(alloc, standing, services, failure, net, rest)
 }
 

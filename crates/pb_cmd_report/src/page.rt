@@ -12,10 +12,10 @@ ghost use Rattle.pb_cmd_report.specs.Pages.{count_words};
 ghost use Rattle.pb_cmd_report.specs.Html.{table_of};
 ghost use Rattle.pb_cmd_report.specs.declared.texts.TheConstants.{TREE};
 
+use crate::criteria::CRITERIA;
 use crate::failures::{put_failure_row, put_failure_rows};
 use crate::html::put_escaped;
 use crate::outcome::Outcome;
-use crate::parting::{are_forests, parts};
 use crate::picture::put_picture;
 use crate::script::SCRIPT;
 use crate::services::put_service_rows;
@@ -26,7 +26,7 @@ use crate::texts::{
     SITES, TABLE_END, TITLE, TREE,
 };
 use crate::trees::{put_given, put_protocol};
-use pb_cmd_survive::{Standing, is_settled};
+use pb_cmd_survive::{Standing, are_forests, is_settled, parts};
 use pb_frame::Memory;
 use pb_lan::{Plan, Spanning};
 use std::alloc::Global;
@@ -49,7 +49,7 @@ fn count_parting(base: &Outcome, outcomes: &[Outcome]) -> usize
 {
     outcomes
         .iter()
-        .filter(|outcome| parts(&base.impact, &outcome.impact))
+        .filter(|outcome| parts(CRITERIA, &base.impact, &outcome.impact))
         .count()
 }
 

@@ -4,7 +4,6 @@ ghost use Rattle.std.specs.Prelude.{◌≡◌, ◌≢◌, ◌++◌, List, ℕ, [
 ghost use Rattle.std.specs.Io.KnownBytes.{Appends, Keeps};
 ghost use Rattle.pb_cmd_survive.specs.Impacts.{IsStanding};
 ghost use Rattle.pb_cmd_survive.specs.Survivals.{most_events};
-ghost use Rattle.pb_lan.specs.Numbering.{numbers_from};
 ghost use Rattle.pb_lan.specs.Plans.{IsSound};
 ghost use Rattle.pb_report.specs.PlanFiles.{IsToldBy};
 ghost use Rattle.pb_cmd_report.specs.Pages.{IsPage, IsPageOn, IsPageFrom, IsTextFrom, IsReportText};
@@ -15,7 +14,7 @@ use crate::end::ReportEnd;
 use crate::outcome::{look_at, look_at_all};
 use crate::page::put_page;
 use crate::raise::raise_whole;
-use pb_cmd_survive::{Failure, FailureProgress, Standing, failures};
+use pb_cmd_survive::{Failure, FailureProgress, Standing, all_services, failures};
 use pb_converge::{DriveFault, fault_of};
 use pb_frame::Memory;
 use pb_lan::Plan;
@@ -25,18 +24,6 @@ use pb_service::{PlanFault, read_plan};
 use std::alloc::Global;
 use std::io::Write;
 use std::thread::Threads;
-
-/// Returns the numbers of all services.
-fn all_services(alloc: Global, plan: &Plan) -> Result<Vec<u8>, Memory>
-    requires { IsSound plan.now }
-    ensures { IfOk result (λ services. services.items ≡ numbers_from 1 plan.now.services) }
-{
-    let mut services = Vec::new(alloc);
-    for (place, _) in plan.services.as_slice().iter().enumerate() {
-        services.push(place as u8 + 1)?;
-    }
-    Ok(services)
-}
 
 /// Analyses a network that is up, with nothing down and under each failure, and appends the page with a text about a
 /// change or none.

@@ -7,8 +7,8 @@ ghost use Rattle.pb_cmd_report.specs.Tables.{service_cells, service_row};
 ghost use Rattle.pb_cmd_report.specs.Words.{tree_text};
 
 use crate::html::{put_cell, put_number_cell};
-use crate::words::{health_word, put_groups, put_tree};
-use pb_cmd_survive::{Site, View};
+use crate::words::{health_word, put_tree};
+use pb_cmd_survive::{Site, View, put_groups};
 use pb_forest::vid_numbered;
 use pb_frame::Memory;
 use pb_lan::{Plan, Shape};

@@ -2,48 +2,14 @@
 
 ghost use Rattle.std.specs.Prelude.{◌≡◌, ◌++◌, string_bytes, OnOk};
 ghost use Rattle.pb_lan.specs.Plans.{IsSound};
-ghost use Rattle.pb_cmd_survive.specs.Failures.{is_hit};
-ghost use Rattle.pb_draw_layout.specs.Facts.{is_active_link, carries_some};
 ghost use Rattle.pb_cmd_report.specs.States.{state_letter, link_letter, live_letters, link_letters, letters_of};
 ghost use Rattle.pb_cmd_report.specs.States.{states_data};
 
-use pb_cmd_survive::Failure;
-use pb_forest::{are_ends_forwarding, is_active, state_in};
+use pb_cmd_survive::{Failure, is_hit};
+use pb_draw_layout::is_active_link;
+use pb_forest::state_in;
 use pb_frame::Memory;
 use pb_lan::{LinkPlan, Plan, PortState, Shape};
-
-/// Checks whether the failure disables the link with this number.
-pub(crate) fn is_hit(failure: Failure, number: u8, link: &LinkPlan) -> bool
-    ensures { result ≡ is_hit failure number link.now }
-{
-    match failure {
-        Failure::Nothing => false,
-        Failure::Link(failed) => number == failed,
-        Failure::Pair(first, second) => number == first || number == second,
-        Failure::Bridge(failed) => link.a.bridge == failed || link.b.bridge == failed,
-    }
-}
-
-/// Checks whether a link is active for some service.
-fn carries_some(plan: &Plan, shape: &Shape, link: &LinkPlan) -> bool
-    ensures { result ≡ carries_some plan.now shape.now link.now }
-{
-    plan.services
-        .as_slice()
-        .iter()
-        .any(|service| is_active(plan, shape, service.vid, link))
-}
-
-/// Checks whether a link is active. In a plan without services it is, if both its ends are Forwarding.
-fn is_active_link(plan: &Plan, shape: &Shape, link: &LinkPlan) -> bool
-    ensures { result ≡ is_active_link plan.now shape.now link.now }
-{
-    if plan.services.as_slice().is_empty() {
-        are_ends_forwarding(shape, link)
-    } else {
-        carries_some(plan, shape, link)
-    }
-}
 
 /// Returns the letter of a port's state.
 fn state_letter(state: PortState) -> &'static str

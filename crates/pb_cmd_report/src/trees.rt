@@ -1,15 +1,15 @@
 //! The table of the spanning tree: the ports to other bridges.
 
-ghost use Rattle.std.specs.Prelude.{◌≡◌, ◌<◌, ◌++◌, length, flat_map, string_bytes, OnOk, IsSome};
+ghost use Rattle.std.specs.Prelude.{◌≡◌, ◌<◌, ◌++◌, length, flat_map, string_bytes, OnOk};
 ghost use Rattle.pb_lan.specs.Plans.{IsSound};
 ghost use Rattle.pb_lan.specs.declared.plan.Spanning.TheVariants.{Rstp as by_protocol};
-ghost use Rattle.pb_rstp.specs.Ports.{port_of};
-ghost use Rattle.pb_cmd_tree.specs.TreeTexts.{is_served, designated_at};
+ghost use Rattle.pb_cmd_tree.specs.Names.{id_name};
+ghost use Rattle.pb_cmd_report.specs.Html.{cell_of};
 ghost use Rattle.pb_cmd_report.specs.Trees.{port_cells, port_words, port_row, machine_rows, protocol_rows};
 ghost use Rattle.pb_cmd_report.specs.Trees.{given_cells, given_words, given_row, given_rows, all_given_rows};
 
 use crate::html::{put_cell, put_number_cell};
-use crate::names::{link_name_at, path_cost_at, put_id_cell};
+use pb_cmd_tree::{designated_at, link_name_at, path_cost_at, put_id};
 use pb_forest::state_in;
 use pb_frame::Memory;
 use pb_lan::{LinkPlan, Plan, PortState, Shape};
@@ -17,29 +17,6 @@ use pb_names::{bridge_name, link_at, role_word, state_word};
 use pb_net::Net;
 use pb_rstp::{Role, Rstp};
 use std::alloc::Global;
-
-/// Checks whether another port is the Designated port of the link of a port with this role.
-fn is_served(role: Role) -> bool
-    ensures { result ≡ is_served role }
-{
-    matches!(role, Role::Root | Role::Alternate | Role::Backup)
-}
-
-/// Returns the identifier of the Designated bridge of a port's link: the one in the vector that the port stores, if
-/// another port serves the link, else the bridge's own.
-fn designated_at(machine: &Rstp, port: u8, role: Role) -> u64
-    requires { IsSome (port_of machine.now.ports port) }
-    ensures { result ≡ designated_at machine.now port role }
-{
-    let own = machine.vector(port).bridge;
-    if !is_served(role) {
-        return own;
-    }
-    match machine.stored(port) {
-        Some(vector) => vector.bridge,
-        None => own,
-    }
-}
 
 /// The parts of a port's row.
 #[derive(Clone, Copy)]
@@ -49,6 +26,15 @@ struct Shown {
     state: PortState,
     /// The identifier of the Designated bridge of its link.
     from: u64,
+}
+
+/// Appends the cell of a bridge's identifier, with the bridge's name if the plan has it.
+fn put_id_cell(alloc: Global, out: &mut String, plan: &Plan, id: u64) -> Result<(), Memory>
+    ensures { OnOk result (string_bytes out.new ≡ string_bytes out.old ++ cell_of (id_name plan.now id)) }
+{
+    let mut text = String::new(alloc);
+    put_id(&mut text, plan, id)?;
+    put_cell(out, text.as_str())
 }
 
 /// Appends the cells of a port.

@@ -1,5 +1,6 @@
 -- The meaning of a strict run's exit status.
-use Rattle.std.proofs.Common.{◌≡◌, ◌⊎◌, ◌&&◌, ℕ, zero, suc, Bool, true, false, refl, sym, subst, ◌∙◌, List, [], ◌∷◌, Option}
+use Rattle.std.proofs.Common.{◌≡◌, ◌⊎◌, ◌&&◌, ℕ, zero, suc, Bool, true, false, refl, sym, subst, ◌∙◌, List, [], ◌∷◌}
+use Rattle.std.proofs.Common.{Option}
 use Rattle.std.proofs.Common.{inl, inr}
 use Rattle.std.proofs.Common.{IfOk}
 use Rattle.std.specs.declared.result.Result.{Result}

@@ -106,7 +106,7 @@ lead-there color ports k port e =
     }
 
 -- an element at an index is contained in the list
-contained : {X : Type 0} (xs : List X) (k : ℕ) (x : X) → slice_get xs k ≡ Some x → Contains xs x
+pub contained : {X : Type 0} (xs : List X) (k : ℕ) (x : X) → slice_get xs k ≡ Some x → Contains xs x
 contained [] k x e = cc
 contained (y ∷ ys) zero x e = (0, omega arith, Some-injective e)
 contained (y ∷ ys) (suc k) x e = let there =

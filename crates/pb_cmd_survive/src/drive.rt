@@ -14,8 +14,9 @@ use pb_lan::{End, Event, LinkPlan, Plan};
 use pb_net::{Net, NetFault};
 use std::alloc::Global;
 
-/// Checks whether the failure disables the link with this number.
-fn is_hit(failure: Failure, number: u8, link: &LinkPlan) -> bool
+/// Checks whether a failure disables a link with this number, from 1: the link fails itself, or a bridge at one of its
+/// ends does.
+pub fn is_hit(failure: Failure, number: u8, link: &LinkPlan) -> bool
     ensures { result ≡ is_hit failure number link.now }
 {
     match failure {
@@ -95,9 +96,15 @@ fn fail(alloc: Global, standing: &Standing<'_>, failure: Failure) -> Result<(Net
     Ok((net, rest))
 }
 
-/// Drives a copy of a network that is up into a failure and to convergence again. Returns it, and whether its bridges
-/// converged. With `Failure::Nothing` it is the network as it was when they had converged.
-pub(crate) fn drive(
+/// Drives a copy of a network that is up into a failure and to convergence again (IEEE 802.1D-2004 clause 17). Returns
+/// the copy, and whether its bridges converged, with the ticks of each after the failure. With [`Failure::Nothing`] it
+/// is the network as it was when its bridges had converged, with the ticks until then.
+///
+/// # Errors
+///
+/// `Memory` if an allocation failed. Else `Steps` if a place would take more steps than the plan allows, and `Events`
+/// if more events are due than the network's patience allows.
+pub fn drive_into(
     alloc: Global,
     standing: &Standing<'_>,
     failure: Failure,

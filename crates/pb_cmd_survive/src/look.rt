@@ -8,7 +8,7 @@ ghost use Rattle.pb_cmd_survive.specs.Impacts.{IsImpactOn, IsStanding};
 ghost use Rattle.pb_lan.specs.LastShapes.{last_shape};
 ghost use Rattle.pb_cmd_survive.specs.Views.{AreViews};
 
-use crate::drive::drive;
+use crate::drive::drive_into;
 use crate::failure::Failure;
 use crate::impact::Impact;
 use crate::parallel::look_each;
@@ -59,7 +59,7 @@ pub fn look_at(
     requires { IsStanding standing.now }
     ensures { IfOk result (IsImpactOn standing.now services.now failure) }
 {
-    let (net, rest) = drive(alloc, standing, failure)?;
+    let (net, rest) = drive_into(alloc, standing, failure)?;
     let tallies = net.tallies()?;
     let views = last_views(alloc, standing.plan, &tallies, failure, services)?;
     Ok(Impact {

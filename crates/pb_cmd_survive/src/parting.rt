@@ -45,8 +45,9 @@ pub(crate) fn is_lost(
     })
 }
 
-/// Checks whether a failure disconnects a service, from its views before and after.
-pub(crate) fn parts_view(criteria: Criteria, old: &View, new: &View) -> bool
+/// Checks whether a failure disconnects a service, from its views before and after: two of its customer ports that
+/// count reached each other before, and can't any more.
+pub fn parts_view(criteria: Criteria, old: &View, new: &View) -> bool
     ensures { result ≡ parts_view criteria (old.now, new.now) }
 {
     let before = old.sites.as_slice();
@@ -57,8 +58,9 @@ pub(crate) fn parts_view(criteria: Criteria, old: &View, new: &View) -> bool
         .any(|(was, is)| is_lost(criteria, before, now, *was, *is))
 }
 
-/// Checks whether a failure disconnects some service.
-pub(crate) fn parts(criteria: Criteria, base: &Impact, impact: &Impact) -> bool
+/// Checks whether a failure disconnects some service, as [`parts_view`] says, from the impact with nothing down and that
+/// of the failure.
+pub fn parts(criteria: Criteria, base: &Impact, impact: &Impact) -> bool
     ensures { result ≡ parts criteria base.now impact.now }
 {
     base.views

@@ -21,8 +21,12 @@ pub enum Scope<'a> {
     From(&'a str),
 }
 
-/// Returns the numbers of all services.
-fn all_services(alloc: Global, plan: &Plan) -> Result<Vec<u8>, Memory>
+/// Returns the numbers of all services of a plan, from 1.
+///
+/// # Errors
+///
+/// `Memory` if an allocation failed.
+pub fn all_services(alloc: Global, plan: &Plan) -> Result<Vec<u8>, Memory>
     requires { IsSound plan.now }
     ensures { IfOk result (λ services. services.items ≡ numbers_from 1 plan.now.services) }
 {

@@ -23,8 +23,8 @@ pub fn is_settled(rest: Rest) -> bool
     }
 }
 
-/// Checks whether the active links of each service are a forest.
-pub(crate) fn are_forests(views: &[View]) -> bool
+/// Checks whether the active links of each service are a forest: no service has a forwarding loop.
+pub fn are_forests(views: &[View]) -> bool
     ensures { result ≡ are_forests views.now }
 {
     views.iter().all(|view| view.is_forest)
@@ -37,8 +37,8 @@ fn is_apart(sites: &[Site], one: Site) -> bool
     sites.iter().any(|other| one.group != other.group)
 }
 
-/// Checks whether two of the ports are in different groups.
-pub(crate) fn is_split(sites: &[Site]) -> bool
+/// Checks whether two of a service's customer ports are in different groups, and can't reach each other.
+pub fn is_split(sites: &[Site]) -> bool
     ensures { result ≡ is_split sites.now }
 {
     sites.iter().any(|one| is_apart(sites, *one))

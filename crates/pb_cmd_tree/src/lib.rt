@@ -11,5 +11,7 @@ mod services;
 mod tree;
 
 pub use end::TreeEnd;
+pub use names::{link_name_at, path_cost_at, put_id};
 pub use pb_converge::DownFault;
+pub use protocol::designated_at;
 pub use tree::run_tree;

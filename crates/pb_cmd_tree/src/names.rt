@@ -9,7 +9,11 @@ use pb_names::{bridge_id, is_end_at, link_at};
 
 /// Appends the name of the bridge with an identifier (IEEE 802.1D-2004 clause 9.2.5), or the identifier in decimal if
 /// no bridge of the plan has it.
-pub(crate) fn put_id(out: &mut String, plan: &Plan, id: u64) -> Result<(), Memory>
+///
+/// # Errors
+///
+/// `Memory` if an allocation failed.
+pub fn put_id(out: &mut String, plan: &Plan, id: u64) -> Result<(), Memory>
     ensures { OnOk result (string_bytes out.new ≡ string_bytes out.old ++ id_name plan.now id) }
 {
     for bridge in plan.bridges.as_slice() {
@@ -22,8 +26,8 @@ pub(crate) fn put_id(out: &mut String, plan: &Plan, id: u64) -> Result<(), Memor
     Ok(())
 }
 
-/// Returns the name of the link at a bridge's port, or an empty text if no link is there.
-pub(crate) fn link_name_at(plan: &Plan, bridge: u8, port: u8) -> &str
+/// Returns the name of the link at a bridge's local port, both from 1, or an empty text if no link is there.
+pub fn link_name_at(plan: &Plan, bridge: u8, port: u8) -> &str
     ensures { result.now ≡ link_name_at plan.now bridge port }
 {
     match link_at(plan, bridge, port) {
@@ -32,8 +36,8 @@ pub(crate) fn link_name_at(plan: &Plan, bridge: u8, port: u8) -> &str
     }
 }
 
-/// Returns the path cost of a bridge's port, or 0 if no link is there.
-pub(crate) fn path_cost_at(plan: &Plan, bridge: u8, port: u8) -> u32
+/// Returns the path cost of a bridge's local port, both from 1, or 0 if no link is there.
+pub fn path_cost_at(plan: &Plan, bridge: u8, port: u8) -> u32
     ensures { result ≡ path_cost_at plan.now bridge port }
 {
     match link_at(plan, bridge, port) {

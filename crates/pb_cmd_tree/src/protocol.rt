@@ -25,8 +25,8 @@ fn is_served(role: Role) -> bool
 }
 
 /// Returns the identifier of the Designated bridge of a port's link: the one in the vector that the port stores, if
-/// another port serves the link, else the bridge's own.
-fn designated_at(machine: &Rstp, port: u8, role: Role) -> u64
+/// another port serves the link, else the bridge's own (IEEE 802.1D-2004 clause 9.2.5). `role` is the role of the port.
+pub fn designated_at(machine: &Rstp, port: u8, role: Role) -> u64
     requires { IsSome (port_of machine.now.ports port) }
     ensures { result ≡ designated_at machine.now port role }
 {

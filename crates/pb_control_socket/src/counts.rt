@@ -1,14 +1,14 @@
 //! The reply to `counts`.
 
-ghost use Rattle.std.specs.Prelude.{◌≡◌, ◌++◌, List, ℕ, map, string_bytes, OnOk};
+ghost use Rattle.std.specs.Prelude.{◌≡◌, ◌++◌, List, ℕ, string_bytes, OnOk};
 ghost use Rattle.pb_control_socket.specs.Sizes.{IsFew};
-ghost use Rattle.pb_control_socket.specs.Texts.{port_line, bridge_line, AreLines, AreLinesByName, IsCountsText};
+ghost use Rattle.pb_control_socket.specs.Texts.{port_line, bridge_line, IsCountsText};
 
 use crate::board::Board;
-use crate::peers::put_all_peers;
+use crate::peers::Peers;
+use crate::reply_lines::{ReplyLines, put_of_bridges, put_of_ports};
 use pb_frame::Memory;
 use pb_lan::Plan;
-use pb_step_script::{bridges_by_name, ports_by_name};
 use std::alloc::Global;
 
 /// Appends the line of a customer port.
@@ -37,74 +37,40 @@ fn put_bridge(out: &mut String, name: &str, counts: (u64, u64)) -> Result<(), Me
     Ok(())
 }
 
-/// Appends the lines of customer ports.
-///
-/// # Errors
-///
-/// `Memory` if an allocation failed.
-fn put_ports<B: Board>(board: &B, ports: &[(&str, u8)], out: &mut String) -> Result<(), Memory>
-    ensures { OnOk result ((text : List ℕ) × (string_bytes out.new ≡ string_bytes out.old ++ text)
-        × AreLines port_line (B.told_port board.now) (map (λ n. (n.0.now, n.1)) ports.now) text) }
-{
-    for (name, number) in ports {
-        let counts = board.traffic(*number);
-        put_port(out, name, counts)?;
+/// The lines of customer ports.
+#[derive(Drop)]
+struct Ports<'a, B> {
+    board: &'a B,
+}
+
+impl<B: Board> ReplyLines for Ports<'_, B> {
+    ghost Fact = { ℕ × ℕ };
+
+    ghost told = { λ those. B.told_port those.board.now };
+
+    ghost lines = { λ _ name fact. port_line name fact };
+
+    fn put(&self, out: &mut String, name: &str, number: u8) -> Result<(), Memory> {
+        put_port(out, name, self.board.traffic(number))
     }
-    Ok(())
 }
 
-/// Appends the lines of bridges.
-///
-/// # Errors
-///
-/// `Memory` if an allocation failed.
-fn put_bridges<B: Board>(board: &B, bridges: &[(&str, u8)], out: &mut String) -> Result<(), Memory>
-    ensures { OnOk result ((text : List ℕ) × (string_bytes out.new ≡ string_bytes out.old ++ text)
-        × AreLines bridge_line (B.told_bridge board.now) (map (λ n. (n.0.now, n.1)) bridges.now) text) }
-{
-    for (name, number) in bridges {
-        let counts = board.bridge(*number);
-        put_bridge(out, name, counts)?;
+/// The lines of bridges.
+#[derive(Drop)]
+struct Bridges<'a, B> {
+    board: &'a B,
+}
+
+impl<B: Board> ReplyLines for Bridges<'_, B> {
+    ghost Fact = { ℕ × ℕ };
+
+    ghost told = { λ those. B.told_bridge those.board.now };
+
+    ghost lines = { λ _ name fact. bridge_line name fact };
+
+    fn put(&self, out: &mut String, name: &str, number: u8) -> Result<(), Memory> {
+        put_bridge(out, name, self.board.bridge(number))
     }
-    Ok(())
-}
-
-/// Appends the lines of all customer ports, in the order of their names.
-///
-/// # Errors
-///
-/// `Memory` if an allocation failed.
-fn put_all_ports<B: Board>(
-    alloc: Global,
-    plan: &Plan,
-    board: &B,
-    out: &mut String,
-) -> Result<(), Memory>
-    requires { IsFew plan.now }
-    ensures { OnOk result ((text : List ℕ) × (string_bytes out.new ≡ string_bytes out.old ++ text)
-        × AreLinesByName port_line (B.told_port board.now) (map (λ c. c.name) plan.now.customers) text) }
-{
-    let ports = ports_by_name(alloc, plan)?;
-    put_ports(board, ports.as_slice(), out)
-}
-
-/// Appends the lines of all bridges, in the order of their names.
-///
-/// # Errors
-///
-/// `Memory` if an allocation failed.
-fn put_all_bridges<B: Board>(
-    alloc: Global,
-    plan: &Plan,
-    board: &B,
-    out: &mut String,
-) -> Result<(), Memory>
-    requires { IsFew plan.now }
-    ensures { OnOk result ((text : List ℕ) × (string_bytes out.new ≡ string_bytes out.old ++ text)
-        × AreLinesByName bridge_line (B.told_bridge board.now) (map (λ b. b.name) plan.now.bridges) text) }
-{
-    let bridges = bridges_by_name(alloc, plan)?;
-    put_bridges(board, bridges.as_slice(), out)
 }
 
 /// Appends the counts of all customer ports and of all bridges, and the peers of the customer ports.
@@ -122,7 +88,7 @@ pub(crate) fn put_counts<B: Board>(
     ensures { OnOk result ((text : List ℕ) × (string_bytes out.new ≡ string_bytes out.old ++ text)
         × IsCountsText plan.now (B.told_port board.now) (B.told_bridge board.now) (B.told_peer board.now) text) }
 {
-    put_all_ports(alloc, plan, board, out)?;
-    put_all_bridges(alloc, plan, board, out)?;
-    put_all_peers(alloc, plan, board, out)
+    put_of_ports(alloc, plan, &Ports { board }, out)?;
+    put_of_bridges(alloc, plan, &Bridges { board }, out)?;
+    put_of_ports(alloc, plan, &Peers { board }, out)
 }

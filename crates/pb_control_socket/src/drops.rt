@@ -1,16 +1,13 @@
 //! The reply to `drops`.
 
-ghost use Rattle.std.specs.Prelude.{◌≡◌, ◌++◌, List, ℕ, map, flat_map, string_bytes, OnOk};
-ghost use Rattle.pb_control_socket.specs.Sizes.{IsFew};
-ghost use Rattle.pb_control_socket.specs.Texts.{drop_line, drop_count, port_drops, drop_lines, AreLines, IsDropsText};
+ghost use Rattle.std.specs.Prelude.{◌≡◌, ◌++◌, List, ℕ, flat_map, string_bytes, OnOk};
+ghost use Rattle.pb_control_socket.specs.Texts.{drop_line, drop_count, port_drops, drop_lines};
 
 use crate::board::Board;
+use crate::reply_lines::ReplyLines;
 use crate::tree::PORTS;
 use pb_frame::Memory;
-use pb_lan::Plan;
 use pb_messages::drop_word;
-use pb_step_script::bridges_by_name;
-use std::alloc::Global;
 
 /// The number of counts of a port.
 const KINDS: usize = 10;
@@ -91,37 +88,21 @@ fn put_bridge(out: &mut String, name: &str, counts: &[u64]) -> Result<(), Memory
     put_ports(out, name, counts, PORTS)
 }
 
-/// Appends the lines of bridges.
-///
-/// # Errors
-///
-/// `Memory` if an allocation failed.
-fn put_bridges<B: Board>(board: &B, bridges: &[(&str, u8)], out: &mut String) -> Result<(), Memory>
-    ensures { OnOk result ((text : List ℕ) × (string_bytes out.new ≡ string_bytes out.old ++ text)
-        × AreLines drop_lines (B.told_drops board.now) (map (λ n. (n.0.now, n.1)) bridges.now) text) }
-{
-    for (name, number) in bridges {
-        let drops = board.drops(*number);
-        put_bridge(out, name, &drops)?;
-    }
-    Ok(())
+/// The lines of the frames that bridges dropped.
+#[derive(Drop)]
+pub(crate) struct Drops<'a, B> {
+    /// The part of a run that is read.
+    pub(crate) board: &'a B,
 }
 
-/// Appends the lines of the frames that bridges dropped, by the names of the bridges.
-///
-/// # Errors
-///
-/// `Memory` if an allocation failed.
-pub(crate) fn put_drops<B: Board>(
-    alloc: Global,
-    plan: &Plan,
-    board: &B,
-    out: &mut String,
-) -> Result<(), Memory>
-    requires { IsFew plan.now }
-    ensures { OnOk result ((text : List ℕ) × (string_bytes out.new ≡ string_bytes out.old ++ text)
-        × IsDropsText plan.now (B.told_drops board.now) text) }
-{
-    let bridges = bridges_by_name(alloc, plan)?;
-    put_bridges(board, bridges.as_slice(), out)
+impl<B: Board> ReplyLines for Drops<'_, B> {
+    ghost Fact = { List ℕ };
+
+    ghost told = { λ those. B.told_drops those.board.now };
+
+    ghost lines = { λ _ name fact. drop_lines name fact };
+
+    fn put(&self, out: &mut String, name: &str, number: u8) -> Result<(), Memory> {
+        put_bridge(out, name, &self.board.drops(number))
+    }
 }

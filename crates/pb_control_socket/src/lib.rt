@@ -19,6 +19,7 @@ mod peers;
 mod places;
 mod reading;
 mod replies;
+mod reply_lines;
 mod request;
 mod stations;
 mod tree;

@@ -9,14 +9,15 @@ ghost use Rattle.pb_control_socket.specs.declared.request.Request.{Request};
 
 use crate::board::Board;
 use crate::counts::put_counts;
-use crate::drops::put_drops;
+use crate::drops::Drops;
 use crate::endings::{put_bad, put_ok};
 use crate::help::put_help;
 use crate::parts::set_part;
 use crate::reading::read_request;
+use crate::reply_lines::put_of_bridges;
 use crate::request::{Refused, Request};
 use crate::stations::put_stations;
-use crate::tree::put_tree;
+use crate::tree::Tree;
 use pb_frame::Memory;
 use pb_lan::Plan;
 use pb_step_script::put_no_such;
@@ -46,11 +47,11 @@ fn put_reply<B: Board>(
             put_ok(out)
         }
         Request::Tree => {
-            put_tree(alloc, plan, board, out)?;
+            put_of_bridges(alloc, plan, &Tree { board }, out)?;
             put_ok(out)
         }
         Request::Drops => {
-            put_drops(alloc, plan, board, out)?;
+            put_of_bridges(alloc, plan, &Drops { board }, out)?;
             put_ok(out)
         }
         Request::Stations { bridge } => put_stations(alloc, plan, board, bridge, out),

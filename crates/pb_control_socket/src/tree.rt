@@ -1,18 +1,17 @@
 //! The reply to `tree`.
 
-ghost use Rattle.std.specs.Prelude.{◌≡◌, ◌++◌, List, ℕ, None, map, flat_map, unwrap_or, string_bytes, OnOk};
-ghost use Rattle.pb_control_socket.specs.Sizes.{IsFew};
-ghost use Rattle.pb_control_socket.specs.Texts.{role_words, view_line, line_among, view_lines, AreLines, IsTreeText};
+ghost use Rattle.std.specs.Prelude.{◌≡◌, ◌++◌, List, ℕ, None, flat_map, unwrap_or, string_bytes, OnOk};
+ghost use Rattle.std.specs.declared.option.Option.{Option};
+ghost use Rattle.pb_control_socket.specs.Texts.{role_words, view_line, line_among, view_lines};
 ghost use Rattle.pb_lan.specs.Numbering.{numbered};
+ghost use Rattle.pb_threads.specs.declared.view.PortView.{PortView};
 
 use crate::board::Board;
+use crate::reply_lines::ReplyLines;
 use pb_frame::{Memory, index_of};
-use pb_lan::Plan;
 use pb_names::{role_word, state_word};
 use pb_rstp::Role;
-use pb_step_script::bridges_by_name;
 use pb_threads::PortView;
-use std::alloc::Global;
 
 /// The numbers of a bridge's local ports.
 pub(crate) const PORTS: &[u8] = &[1, 2, 3, 4, 5, 6, 7, 8, 9, 10, 11, 12, 13, 14, 15, 16];
@@ -94,37 +93,21 @@ fn put_bridge(out: &mut String, name: &str, views: &[Option<PortView>]) -> Resul
     put_views(out, name, views, PORTS)
 }
 
-/// Appends the lines of the ports of bridges.
-///
-/// # Errors
-///
-/// `Memory` if an allocation failed.
-fn put_bridges<B: Board>(board: &B, bridges: &[(&str, u8)], out: &mut String) -> Result<(), Memory>
-    ensures { OnOk result ((text : List ℕ) × (string_bytes out.new ≡ string_bytes out.old ++ text)
-        × AreLines view_lines (B.told_views board.now) (map (λ n. (n.0.now, n.1)) bridges.now) text) }
-{
-    for (name, number) in bridges {
-        let views = board.views(*number);
-        put_bridge(out, name, &views)?;
-    }
-    Ok(())
+/// The lines of the ports between bridges.
+#[derive(Drop)]
+pub(crate) struct Tree<'a, B> {
+    /// The part of a run that is read.
+    pub(crate) board: &'a B,
 }
 
-/// Appends the lines of all ports between bridges, by the names of the bridges.
-///
-/// # Errors
-///
-/// `Memory` if an allocation failed.
-pub(crate) fn put_tree<B: Board>(
-    alloc: Global,
-    plan: &Plan,
-    board: &B,
-    out: &mut String,
-) -> Result<(), Memory>
-    requires { IsFew plan.now }
-    ensures { OnOk result ((text : List ℕ) × (string_bytes out.new ≡ string_bytes out.old ++ text)
-        × IsTreeText plan.now (B.told_views board.now) text) }
-{
-    let bridges = bridges_by_name(alloc, plan)?;
-    put_bridges(board, bridges.as_slice(), out)
+impl<B: Board> ReplyLines for Tree<'_, B> {
+    ghost Fact = { List (Option PortView) };
+
+    ghost told = { λ those. B.told_views those.board.now };
+
+    ghost lines = { λ _ name fact. view_lines name fact };
+
+    fn put(&self, out: &mut String, name: &str, number: u8) -> Result<(), Memory> {
+        put_bridge(out, name, &self.board.views(number))
+    }
 }

@@ -2,17 +2,17 @@
 use Rattle.std.proofs.Common.{◌≡◌, ◌≢◌, ◌⊎◌, ◌↔◌, inl, inr, ◌<◌, ◌≤◌, ◌+◌, ℕ, zero, suc, Bool, true, false, ◌&&◌, ◌||◌}
 use Rattle.std.proofs.Common.{◌==◌, nat_le, Some}
 use Rattle.std.proofs.Common.{List, [], ◌∷◌, ◌++◌, length, slice_get, cond, refl, sym, ap, subst, ◌∙◌, arith}
-use Rattle.std.proofs.lemmas.Bool.{cases_lt, eqb-true, eq-eqb, leb-true, le-leb}
+use Rattle.std.proofs.lemmas.Bool.{and_from, cases_lt, eqb-true, eq-eqb, leb-true, le-leb}
 use Rattle.std.proofs.lemmas.List.Folds.{list_any-append}
 use Rattle.std.proofs.lemmas.Option.{slice_get_within}
 use Rattle.pb_forest.specs.ServiceVids.{vid_numbered}
 use Rattle.pb_frame.proofs.Counting.{any-count, count-any}
-use Rattle.pb_frame.proofs.Lists.{All-at, and-left, and-right, list_any-at, Some-injective, true-false}
-use Rattle.pb_joins.proofs.JoinLemmas.{end_number}
+use Rattle.pb_frame.proofs.Lists.{and-left, and-right, list_any-at, Some-injective, true-false}
+use Rattle.pb_joins.proofs.JoinLemmas.{customer_number, end_number}
 use Rattle.pb_joins.specs.Joins.{TellsJoined, mark_at}
 use Rattle.pb_lan.proofs.Numbers.{numbered-place}
 use Rattle.pb_lan.specs.Numbering.{numbered}
-use Rattle.pb_lan.specs.Plans.{IsSound, IsSoundCustomer, IsNumber}
+use Rattle.pb_lan.specs.Plans.{IsSound, IsNumber}
 use Rattle.pb_lan.specs.Shapes.{is_active}
 use Rattle.pb_lan.specs.declared.plan.Plan.{Plan}
 use Rattle.pb_lan.specs.declared.plan.LinkPlan.{LinkPlan}
@@ -21,20 +21,6 @@ use Rattle.pb_lan.specs.declared.shape.Shape.{Shape}
 use Rattle.pb_draw_layout.specs.Facts.{is_among}
 use Rattle.pb_draw_layout.specs.Paths.{is_other, is_site_at, sites_at, needed_sites, ReachesSite, IsOnPath, AreLit}
 use Rattle.pb_draw_layout.proofs.PairLemmas.{any_where, two_of, two_count}
-
--- both tests pass
-and-both : (a b : Bool) → a ≡ true → b ≡ true → (a && b) ≡ true
-and-both a b e f = cc
-
--- a customer port of a sound plan is at a bridge 1 to 32
-customer_number : (plan : Plan) → IsSound plan → (k : ℕ) (c : CustomerPlan) → slice_get plan.customers k ≡ Some c
-    → IsNumber c.bridge 32
-customer_number plan sound k c at =
-    let bridge = (All-at (IsSoundCustomer plan) plan.customers k c at sound.customers).bridge in
-    let low = bridge.0 in
-    let high = bridge.1 in
-    let few = sound.limits.bridges in
-    (low, omega (arith, high, few))
 
 -- the ends of the link with a number are at bridges 1 to 32
 pub ends_within : (plan : Plan) → IsSound plan → (number : ℕ) (link : LinkPlan) → numbered plan.links number ≡ Some link
@@ -74,7 +60,7 @@ reaches_to plan test marks service bridge sound in_b tells r =
       k,
       is,
       at_c,
-      and-both (r.site.service == service) (mark_at marks r.site.bridge == mark_at marks bridge)
+      and_from (r.site.service == service) (mark_at marks r.site.bridge == mark_at marks bridge)
           (eq-eqb r.site.service service r.served)
           (eq-eqb (mark_at marks r.site.bridge) (mark_at marks bridge)
           (sym ((tells bridge r.site.bridge in_b in_c).1 r.joined))),
@@ -188,8 +174,8 @@ path_iff plan shape service link marks active a b needed sound in_a in_b tells i
       λ p.
           let r = reached_to plan test marks service link sound in_a in_b tells
           (record { a = p.a; b = p.b; two = p.two }) in
-          and-both (active && nat_le needed a) (nat_le needed b)
-          (and-both active (nat_le needed a) (is_active_so ∙ p.active)
+          and_from (active && nat_le needed a) (nat_le needed b)
+          (and_from active (nat_le needed a) (is_active_so ∙ p.active)
           (le-leb needed a (subst (λ k. needed ≤ k) (sym many_a) (subst (λ k. k
           ≤ sites_at plan marks service (mark_at marks link.a.bridge)) (sym needs) r.0))))
           (le-leb needed b (subst (λ k. needed ≤ k) (sym many_b) (subst (λ k. k

@@ -135,8 +135,9 @@ fn carries_some(plan: &Plan, shape: &Shape, link: &LinkPlan) -> bool
         .any(|service| is_active(plan, shape, service.vid, link))
 }
 
-/// Checks whether a link is active. In a plan without services it is, if both its ends are Forwarding.
-fn is_active_link(plan: &Plan, shape: &Shape, link: &LinkPlan) -> bool
+/// Checks whether a link is active: both its ends are Forwarding and members of at least one service. In a plan without
+/// services it is, if both its ends are Forwarding.
+pub fn is_active_link(plan: &Plan, shape: &Shape, link: &LinkPlan) -> bool
     ensures { result ≡ is_active_link plan.now shape.now link.now }
 {
     if plan.services.as_slice().is_empty() {

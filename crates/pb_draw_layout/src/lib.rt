@@ -16,6 +16,7 @@ mod table;
 
 pub use facts::{
     BridgeFacts, DownEnds, Failures, LinkFacts, LinkState, PortFacts, ServiceFacts, Tone,
+    is_active_link,
 };
 pub use marks::scene_of;
 pub use scene::{

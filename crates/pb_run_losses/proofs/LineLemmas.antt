@@ -1,5 +1,6 @@
 -- Texts of pairs, appended one after another (used by the loops of `put_losses` and `put_drops`).
-use Rattle.std.proofs.Common.{◌≡◌, ◌≤◌, ◌⊎◌, ℕ, ◌+◌, ◌-◌, arith, Bool, List, [], ◌∷◌, ◌++◌, flat_map, refl, sym, ap, ◌∙◌, ⊎_elim, append_assoc, subst, Err, OnOk}
+use Rattle.std.proofs.Common.{◌≡◌, ◌≤◌, ◌⊎◌, ℕ, ◌+◌, ◌-◌, arith, Bool, List, [], ◌∷◌, ◌++◌, flat_map, refl, sym, ap}
+use Rattle.std.proofs.Common.{◌∙◌, ⊎_elim, append_assoc, subst, Err, OnOk}
 use Rattle.std.proofs.Common.{append-nil}
 use Rattle.std.specs.List.{zip, range_with_len}
 use Rattle.std.specs.declared.result.Result.{Result}
@@ -31,7 +32,8 @@ pairs_end {A = A} {B = B} f xs ys old whole end w =
     sym (append-nil old) ∙ sym (ap (λ ps. old ++ flat_map f ps) none) ∙ w
 
 -- the lines of the next bridge, followed by those of the remaining bridges, are the whole
-pub drops_more : (plan : Plan) (late lost : Bool) (n : ℕ) (b : BridgePlan) (steps : List Step) (xs xs' : List BridgePlan)
+pub drops_more : (plan : Plan) (late lost : Bool) (n : ℕ) (b : BridgePlan) (steps : List Step)
+    (xs xs' : List BridgePlan)
     (ys ys' : List (List Step)) (old new whole : List ℕ)
     → xs ≡ b ∷ xs' → ys ≡ steps ∷ ys' → new ≡ old ++ bridge_drops plan late lost n b.name steps
     → old ++ drops_from plan late lost n xs ys ≡ whole → new ++ drops_from plan late lost (n + 1) xs' ys' ≡ whole

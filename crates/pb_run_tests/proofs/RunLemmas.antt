@@ -1,5 +1,5 @@
 -- The guarantee of a run, clause by clause.
-use Rattle.std.proofs.Common.{ℕ, Bool, List, Option, map, IfOk, Ok, Err}
+use Rattle.std.proofs.Common.{Bool, List, Option, map}
 use Rattle.std.specs.declared.result.Result.{Result}
 use Rattle.std.specs.declared.vec.Vec.{Vec}
 use Rattle.pb_frame.specs.declared.memory.Memory.{Memory}
@@ -10,10 +10,6 @@ use Rattle.pb_run.specs.declared.ended.Ended.{Ended}
 use Rattle.pb_run_tests.specs.Explained.{PortsTell, RunTells}
 use Rattle.pb_workers.specs.Ports.{PortFrames}
 use Rattle.pb_workers.specs.declared.access.Last.{Last}
-
-pub on_value : {A E : Type 0} {P Q : A → Type 0} (r : Result A E) → ((x : A) → P x → Q x) → IfOk r P → IfOk r Q
-on_value (Ok x) f p = f x p
-on_value (Err e) f p = p
 
 pub run_tells : {P Z : Type 0} (view : P → PortFrames) (plan : Plan) (before after : Vec P Z) (rec : Record)
     (lasts : List Last) (end : Ended) (settled : Result (Option Bool) Memory)

@@ -12,6 +12,7 @@ mod fault;
 mod formats;
 mod key_fault;
 mod link;
+mod lists;
 mod network;
 mod port;
 mod port_spec;

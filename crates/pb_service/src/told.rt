@@ -9,9 +9,10 @@ ghost use Rattle.pb_service.specs.Told.{direction_of, framing_of};
 ghost use Rattle.pb_service.specs.declared.fault.PlanFault.TheVariants.{Memory as memory_fault};
 
 use crate::fault::PlanFault;
+use crate::lists::has_text;
 use crate::port_spec::{LengthField, Stamp};
 use crate::tap::TapDirection;
-use crate::values::{has_text, natural_of, text_in};
+use crate::values::{natural_of, text_in};
 use pb_frame::{Seq, Text};
 use pb_lan::{PortState, Queues, Spanning};
 use std::alloc::Global;

@@ -1,23 +1,21 @@
 //! Checks of the values of a TOML document.
 
-ghost use Rattle.std.specs.Prelude.{◌≡◌, true, false, ◌+◌, ◌^◌, ◌<◌, ◌↔◌, IsTrue, IsSome, IfSome, IfNone, IfOk};
-ghost use Rattle.std.specs.Prelude.{nat_le, ◌==◌, ◌%◌, ◌&&◌, ◌||◌, is_some, codes, List, ℕ};
+ghost use Rattle.std.specs.Prelude.{◌≡◌, false, ◌^◌, ◌<◌, ◌↔◌, IsTrue, IsSome, IfSome, IfNone, IfOk};
+ghost use Rattle.std.specs.Prelude.{nat_le, ◌==◌, ◌%◌, ◌&&◌, ◌||◌, codes};
 ghost use Rattle.std.specs.List.{list_all};
-ghost use Rattle.toml.specs.Data.{as_str, as_integer, as_bool};
-ghost use Rattle.toml.specs.View.{view, items_view};
+ghost use Rattle.toml.specs.View.{view};
 ghost use Rattle.pb_frame.specs.Admission.{same};
 ghost use Rattle.pb_frame.specs.Frames.{is_group};
 ghost use Rattle.pb_frame.specs.Hex.{is_digit, IsMacText};
 ghost use Rattle.pb_lan.specs.Names.{is_name};
-ghost use Rattle.pb_service.specs.Values.{natural_of, is_text, is_natural, all_items, any_item, is_list, is_hex};
-ghost use Rattle.pb_service.specs.Values.{is_file_kind, is_port_kind};
-ghost use Rattle.pb_service.specs.Values.{text_in, IsAddress, rise_from, are_distinct, is_of_kind, IsAllowed};
+ghost use Rattle.pb_service.specs.Values.{natural_of, is_text, is_natural, is_hex, is_file_kind, is_port_kind};
+ghost use Rattle.pb_service.specs.Values.{text_in, IsAddress, is_of_kind, IsAllowed};
 
+use crate::lists::{are_frames, are_integers, are_listed, are_losses, are_texts};
 use crate::rule::Rule;
 use crate::udp::socket_address;
 use pb_frame::Mac;
 use std::alloc::{AllocError, Global};
-use std::collections::BTreeSet;
 use toml::Value;
 
 /// Returns the number of an integer that isn't negative.
@@ -80,7 +78,7 @@ fn is_framing(value: &Value) -> bool
 }
 
 /// Returns whether the value is a text that is a name.
-fn is_name(value: &Value) -> bool
+pub(crate) fn is_name(value: &Value) -> bool
     ensures { result ≡ is_text is_name (view value.now) }
 {
     match value.as_str() {
@@ -112,7 +110,7 @@ fn is_hex_text(text: &str) -> bool
 }
 
 /// Returns whether the value is a text of pairs of hexadecimal digits.
-fn is_hex(value: &Value) -> bool
+pub(crate) fn is_hex(value: &Value) -> bool
     ensures { result ≡ is_text is_hex (view value.now) }
 {
     match value.as_str() {
@@ -222,112 +220,14 @@ fn is_direction(value: &Value) -> bool
     }
 }
 
-/// Returns whether each item is an integer.
-fn are_integers(items: &[Value]) -> bool
-    ensures { result ≡ all_items (λ e. is_some (as_integer e)) (items_view items.now) }
-{
-    for item in items {
-        if !item.is_integer() {
-            return false;
-        }
-    }
-    true
-}
-
-/// Returns whether each item is a text.
-fn are_texts(items: &[Value]) -> bool
-    ensures { result ≡ all_items (λ e. is_some (as_str e)) (items_view items.now) }
-{
-    for item in items {
-        if !item.is_str() {
-            return false;
-        }
-    }
-    true
-}
-
-/// Returns whether each item is a text of pairs of hexadecimal digits.
-fn are_hex(items: &[Value]) -> bool
-    ensures { result ≡ all_items (is_text is_hex) (items_view items.now) }
-{
-    for item in items {
-        if !is_hex(item) {
-            return false;
-        }
-    }
-    true
-}
-
-/// Returns whether each item is a name.
-fn are_names(items: &[Value]) -> bool
-    ensures { result ≡ all_items (is_text is_name) (items_view items.now) }
-{
-    for item in items {
-        if !is_name(item) {
-            return false;
-        }
-    }
-    true
-}
-
-/// Returns whether the items are natural numbers that rise strictly.
-fn rise(items: &[Value]) -> bool
-    ensures { result ≡ rise_from 0 (items_view items.now) }
-{
-    let mut least = 0;
-    for item in items {
-        let Some(n) = natural_of(item) else {
-            return false;
-        };
-        if n < least {
-            return false;
-        }
-        least = n + 1;
-    }
-    true
-}
-
-/// Returns whether one of the items is this text.
-pub(crate) fn has_text(items: &[Value], text: &str) -> bool
-    ensures { result ≡ any_item (is_text (same text.now)) (items_view items.now) }
-{
-    for item in items {
-        if is_same(item, text) {
-            return true;
-        }
-    }
-    false
-}
-
 /// Returns whether the value is this text.
-fn is_same(value: &Value, text: &str) -> bool
+pub(crate) fn is_same(value: &Value, text: &str) -> bool
     ensures { result ≡ is_text (same text.now) (view value.now) }
 {
     match value.as_str() {
         Some(other) => text == other,
         None => false,
     }
-}
-
-/// Checks whether no text occurs twice among the items, which are names.
-///
-/// # Errors
-///
-/// `AllocError` if an allocation failed.
-fn are_distinct(alloc: Global, items: &[Value]) -> Result<bool, AllocError>
-    requires { all_items (is_text is_name) (items_view items.now) ≡ true }
-    ensures { IfOk result (λ distinct. distinct ≡ are_distinct (items_view items.now)) }
-{
-    let mut seen = BTreeSet::new(alloc);
-    for index in (0..items.len()).rev() {
-        let Ok(is_new) = seen.insert(text_in(&items[index])) else {
-            return Err(AllocError);
-        };
-        if !is_new {
-            return Ok(false);
-        }
-    }
-    Ok(true)
 }
 
 /// Returns whether the value is of the TOML type that the rule requires. The items of a list are checked too.
@@ -395,39 +295,4 @@ pub(crate) fn is_allowed(alloc: Global, rule: Rule, value: &Value) -> Result<boo
         Rule::FlagOrAuto => value.is_bool() || is_same(value, "auto"),
     };
     Ok(is_allowed)
-}
-
-/// Returns whether the value is a list of numbers that rises strictly.
-fn are_losses(value: &Value) -> bool
-    ensures { result ≡ is_list (rise_from 0) (view value.now) }
-{
-    match value.as_array() {
-        Some(items) => rise(items.as_slice()),
-        None => false,
-    }
-}
-
-/// Checks whether the value is a list of distinct names.
-///
-/// # Errors
-///
-/// `AllocError` if an allocation failed.
-fn are_listed(alloc: Global, value: &Value) -> Result<bool, AllocError>
-    ensures { IfOk result (λ listed.
-        listed ≡ is_list (λ ds. all_items (is_text is_name) ds && are_distinct ds) (view value.now)) }
-{
-    match value.as_array() {
-        Some(items) if are_names(items.as_slice()) => are_distinct(alloc, items.as_slice()),
-        _ => Ok(false),
-    }
-}
-
-/// Returns whether the value is a list of hexadecimal texts.
-fn are_frames(value: &Value) -> bool
-    ensures { result ≡ is_list (all_items (is_text is_hex)) (view value.now) }
-{
-    match value.as_array() {
-        Some(items) => are_hex(items.as_slice()),
-        None => false,
-    }
 }

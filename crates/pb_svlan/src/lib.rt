@@ -3,6 +3,7 @@
 //! pb_reserved. Begin with [`Services`].
 #![tactic(auto)]
 
+mod attachments;
 mod enter;
 mod entered;
 mod fault;

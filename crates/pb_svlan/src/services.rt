@@ -1,6 +1,6 @@
 //! The services of a bridge and the ports that are their members.
 
-ghost use Rattle.std.specs.Prelude.{◌≡◌, ◌+◌, ◌≤◌, ◌↔◌, ◌++◌, ◌∷◌, [], ◌==◌, true, false, length, insert, map};
+ghost use Rattle.std.specs.Prelude.{◌≡◌, ◌+◌, ◌≤◌, ◌↔◌, ◌++◌, ◌∷◌, [], ◌==◌, true, false, length};
 ghost use Rattle.std.specs.Prelude.{unwrap_or, IsTrue, IsOk, IfOk, IfErr, IsSome, OnOk, OnErr, IsErrOf, Some};
 ghost use Rattle.std.specs.Prelude.{option_copied};
 ghost use Rattle.std.specs.List.{list_any, list_all};
@@ -8,13 +8,14 @@ ghost use Rattle.pb_frame.specs.Admission.{same, is_admitted, refusal};
 ghost use Rattle.pb_svlan.specs.declared.port.Join.{Join};
 ghost use Rattle.pb_svlan.specs.Entering.{IsEntered};
 ghost use Rattle.pb_frame.specs.Lists.{Rises};
-ghost use Rattle.pb_svlan.specs.ServiceTables.{vid_of, is_known, are_known, has_name, has_vid, kind_in, is_taken};
+ghost use Rattle.pb_svlan.specs.ServiceTables.{vid_of, is_known, are_known, has_name, has_vid, is_taken};
 ghost use Rattle.pb_svlan.specs.ServiceTables.{is_member, is_member_as, kind_at, attached, carried, vids_of, ports_of};
-ghost use Rattle.pb_svlan.specs.ServiceTables.{pcp_of, vid_at, place_of};
+ghost use Rattle.pb_svlan.specs.ServiceTables.{pcp_of, vid_at};
 ghost use Rattle.pb_svlan.specs.declared.port.PortKind.TheVariants.{Customer, Trunk};
 
 mod copying;
 
+use crate::attachments::{attach, kind_at};
 use crate::enter::refusal;
 use crate::entered::Entered;
 use crate::fault::{AddFault, JoinFault};
@@ -359,29 +360,6 @@ impl Services {
     }
 }
 
-/// Returns the role of the port. If the ports from 1 to it all have roles, it is found without a search.
-fn kind_at(ports: &[Attachment], port: u8) -> Option<&PortKind>
-    requires { Rises (map (λ a. a.port) ports.now) }
-    ensures { option_copied result ≡ kind_in ports.now port }
-{
-    match ports.get(usize::from(port.saturating_sub(1))) {
-        Some(attachment) if attachment.port == port => Some(&attachment.kind),
-        _ => searched(ports, port),
-    }
-}
-
-/// Searches the ports for this one and returns its role.
-fn searched(ports: &[Attachment], port: u8) -> Option<&PortKind>
-    ensures { option_copied result ≡ kind_in ports.now port }
-{
-    for attachment in ports {
-        if attachment.port == port {
-            return Some(&attachment.kind);
-        }
-    }
-    None
-}
-
 /// Returns the membership of a customer port.
 fn customer(vid: Vid, pcp: u8) -> Join
     requires { pcp ≤ 7 }
@@ -389,35 +367,6 @@ fn customer(vid: Vid, pcp: u8) -> Join
     ensures pcp { result.pcp ≡ pcp }
 {
     Join { vid, pcp }
-}
-
-/// Inserts a port at its place among the ascending ports.
-///
-/// # Errors
-///
-/// `AllocError` if an allocation failed. The ports are unchanged then.
-fn attach(ports: &mut Vec<Attachment>, attachment: Attachment) -> Result<(), AllocError>
-    ensures ok { OnOk result (ports.new.items
-        ≡ insert ports.old.items (place_of attachment.port ports.old.items) attachment) }
-    ensures err { OnErr result (ports.new.items ≡ ports.old.items) }
-{
-    let place = place_of(ports, attachment.port);
-    ports.insert(place, attachment)?;
-    Ok(())
-}
-
-/// Returns the index at which a port is inserted to keep the ports ascending.
-fn place_of(ports: &[Attachment], port: u8) -> usize
-    ensures { result ≡ place_of port ports.now }
-{
-    let mut place = 0;
-    for attachment in ports {
-        if attachment.port >= port {
-            return place;
-        }
-        place += 1;
-    }
-    place
 }
 
 /// Checks whether one of the VIDs is this number.

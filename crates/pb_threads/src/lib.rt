@@ -8,6 +8,7 @@
 #![tactic(auto)]
 
 mod bells;
+mod floor;
 mod gate;
 mod helping;
 mod pace;

@@ -2,14 +2,13 @@
 use Rattle.std.proofs.Common.{◌≡◌, ◌⊎◌, inl, inr, ◌<◌, ◌≤◌, ℕ, suc, Bool, true, false, not, ◌&&◌, ◌==◌, Some}
 use Rattle.std.proofs.Common.{List, [], ◌∷◌, length, slice_get, refl, sym, arith}
 use Rattle.std.specs.List.{list_any}
-use Rattle.std.proofs.lemmas.Bool.{cases_lt, eqb-true, eq-eqb}
-use Rattle.pb_frame.proofs.Lists.{All-at, All-placed, and-left, and-right, list_any-at, list_any-found}
+use Rattle.std.proofs.lemmas.Bool.{and_from, cases_lt, eqb-true, eq-eqb}
+use Rattle.pb_frame.proofs.Lists.{All-placed, and-left, and-right, list_any-at, list_any-found}
 use Rattle.pb_lan.proofs.Numbers.{numbered-place}
-use Rattle.pb_lan.specs.Plans.{IsSound, IsSoundCustomer, IsNumber}
+use Rattle.pb_lan.specs.Plans.{IsSound, IsNumber}
 use Rattle.pb_lan.specs.declared.plan.Plan.{Plan}
 use Rattle.pb_lan.specs.declared.plan.Spanning.TheVariants.{Rstp}
-use Rattle.pb_lan.specs.declared.plan.CustomerPlan.{CustomerPlan}
-use Rattle.pb_joins.proofs.JoinLemmas.{path_numbers}
+use Rattle.pb_joins.proofs.JoinLemmas.{customer_number, path_numbers}
 use Rattle.pb_warnings.specs.Hops.{TellsWithin}
 use Rattle.pb_warnings.specs.Links.{passes}
 use Rattle.pb_warnings.specs.Marks.{is_apart, are_apart}
@@ -17,26 +16,12 @@ use Rattle.pb_joins.specs.Joins.{Leads, mark_at, TellsJoined}
 use Rattle.pb_warnings.specs.Rules.{IsSplit, IsTooFar, root_of}
 use Rattle.pb_warnings.specs.declared.links.Links.TheVariants.{All, Service}
 
--- both tests pass
-and-both : (a b : Bool) → a ≡ true → b ≡ true → (a && b) ≡ true
-and-both a b e f = cc
-
 -- an entry at which the test passes
 any_where : {X : Type 0} (test : X → Bool) (xs : List X) → list_any test xs ≡ true
     → (k : ℕ) × (x : X) × (slice_get xs k ≡ Some x) × (test x ≡ true)
 any_where test xs h =
     let found = list_any-found (λ x. (k : ℕ) × (slice_get xs k ≡ Some x)) test xs h (All-placed xs) in
     (found.1.0, found.0, found.1.1, found.2)
-
--- a customer port of a sound plan is at a bridge 1 to 32
-customer_number : (plan : Plan) → IsSound plan → (k : ℕ) (c : CustomerPlan) → slice_get plan.customers k ≡ Some c
-    → IsNumber c.bridge 32
-customer_number plan sound k c at =
-    let bridge = (All-at (IsSoundCustomer plan) plan.customers k c at sound.customers).bridge in
-    let low = bridge.0 in
-    let high = bridge.1 in
-    let few = sound.limits.bridges in
-    (low, omega (arith, high, few))
 
 -- two numbers that the test tells apart are different
 unequal : (a b : ℕ) → not (a == b) ≡ true → a ≡ b → ⊥
@@ -79,12 +64,12 @@ split_to plan service marks sound tells s =
     let inner : is_apart plan marks service (mark_at marks s.here.bridge) ≡ true = list_any-at
     (λ c. c.service == service && not (mark_at marks c.bridge == mark_at marks s.here.bridge)) plan.customers j
     s.there at_d
-    (and-both _ _ (eq-eqb s.there.service service s.of_there)
+    (and_from _ _ (eq-eqb s.there.service service s.of_there)
     (apart (mark_at marks s.there.bridge) (mark_at marks s.here.bridge)
     (λ e. s.apart ((tells s.here.bridge s.there.bridge in_c in_d).0 (sym e))))) in
     list_any-at (λ c. c.service == service && is_apart plan marks service (mark_at marks c.bridge)) plan.customers k
     s.here
-    at_c (and-both _ _ (eq-eqb s.here.service service s.of_here) inner)
+    at_c (and_from _ _ (eq-eqb s.here.service service s.of_here) inner)
 
 -- a bridge that is too far from the root, and the root, are bridges 1 to 32
 pub far_numbers : (plan : Plan) (bridge : ℕ) → IsSound plan → IsTooFar plan bridge

@@ -1,6 +1,7 @@
 -- A frame that is received while the other ports have room is refused by no full queue.
 use Rattle.std.proofs.Common.{◌≡◌, ◌<◌, ◌≤◌, ◌==◌, ◌&&◌, ◌++◌, ℕ, Bool, true, false, not, nat_le, List, [], ◌∷◌}
 use Rattle.std.proofs.Common.{Option, Some, inl, inr, length, map, slice_get, refl, sym, ap, ◌∙◌, subst, arith}
+use Rattle.std.proofs.lemmas.Bool.{and_right}
 use Rattle.std.specs.List.{AllByRecursion, filter, list_any}
 use Rattle.pb_frame.proofs.Lists.{All-both, All-imply, All-passed, All-placed, All-unmap, list_any-at, list_any-found}
 use Rattle.pb_frame.proofs.Lists.{false-unless, true-false, eqb-refl}
@@ -40,17 +41,13 @@ few_pass test (x ∷ xs) = let rest = few_pass test xs in grind (arith, rest)
 not_full : (most waiting : ℕ) → waiting < most → nat_le most waiting ≡ false
 not_full most waiting room = grind arith
 
-neither : (a b : Bool) → b ≡ false → (a && b) ≡ false
-neither true b e = e
-neither false b e = refl
-
 -- fewer items than the capacity leave room in each traffic class
 room_in_class : (queues : Queues) (most class : ℕ) (ws : List Waiting) → length ws < most
     → is_full_by queues most class ws ≡ false
 room_in_class PerPort most class ws room = not_full most (length ws) room
 room_in_class PerClass most class ws room =
     let few = few_pass (λ (w : Waiting). w.class == class) ws in
-    neither (not (class == 8)) _ (not_full most (length (filter (λ w. w.class == class) ws)) (omega arith))
+    and_right (not (class == 8)) _ (not_full most (length (filter (λ w. w.class == class) ws)) (omega arith))
 
 forwards : (s : PortState) → is_forwarding s ≡ true → s ≡ Forwarding
 forwards Forwarding e = refl

@@ -26,7 +26,8 @@ loop-bridge-preserved c =
 
 pub returns : goal.returns
 returns c =
-    drops_end c.args.plan.now c.changed_late.result c.args.lost c.loop-bridge.number _ _ (string_bytes c.loop-bridge.out)
+    drops_end c.args.plan.now c.changed_late.result c.args.lost c.loop-bridge.number _ _
+    (string_bytes c.loop-bridge.out)
     _ (either_empty_from_Zip c.loop-bridge.bridge-iterator c.next.new.self c.next.result c.in-None.is
     c.next.ensures.steps) c.loop-bridge.invariant.texts
     ∙ ap (λ late. string_bytes c.args.out.now ++ drops_from c.args.plan.now late c.args.lost 1 c.args.plan.now.bridges

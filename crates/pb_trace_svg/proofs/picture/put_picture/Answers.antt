@@ -15,7 +15,8 @@ returns c =
     let marks = c.in_ok-marks.marks in
     let over = over_text plan scene.links marks in
     let old = string_bytes c.new-over.result in
-    let links_are = ap (λ (ls : List LinkMark). old ++ over_text plan ls c.as_slice-9.result.now) c.as_slice-8.ensures in
+    let links_are = ap (λ (ls : List LinkMark). old ++ over_text plan ls c.as_slice-9.result.now) c.as_slice-8.ensures
+    in
     let marks_are = ap (λ (ms : List HopMark). old ++ over_text plan scene.links ms) c.as_slice-9.ensures in
     let over_is : c.as_str.result.now ≡ over = c.as_str.ensures.value ∙ c.in_ok-put_over.ensures ∙ links_are
     ∙ marks_are ∙ ap (λ t. t ++ over) c.new-over.ensures.bytes in
