@@ -17,6 +17,7 @@ use Rattle.pb_cmd_survive.specs.Verdicts.{is_settled}
 use Rattle.pb_cmd_survive.specs.Views.{IsView, AreViews}
 use Rattle.pb_cmd_survive.specs.declared.impact.Impact.{Impact}
 use Rattle.pb_cmd_survive.specs.declared.sites.Site.{Site}
+use Rattle.pb_cmd_survive.proofs.GroupLemmas.{contained}
 use Rattle.pb_cmd_survive.specs.declared.view.View.{View}
 use Rattle.pb_cmd_diff.specs.Compared.{service_in}
 use Rattle.pb_cmd_diff.specs.Effects.{change_of, effect_of, IsEffect}
@@ -28,7 +29,7 @@ use Rattle.pb_cmd_diff.specs.declared.case.Case.{Case}
 use Rattle.pb_cmd_diff.specs.declared.effect.Effect.{Effect}
 use Rattle.pb_cmd_diff.specs.declared.effect.ServiceChange.{ServiceChange}
 use Rattle.pb_cmd_diff.specs.declared.member.Member.{Member}
-use Rattle.pb_cmd_diff.proofs.MemberLemmas.{contains_none, contains_cases, contains_at, at_of, contains_map}
+use Rattle.pb_cmd_diff.proofs.MemberLemmas.{contains_none, contains_cases, at_of, contains_map}
 use Rattle.pb_cmd_diff.proofs.MemberLemmas.{contains_unmap, contains_flat, contains_unflat, pair_of, pair_passes}
 use Rattle.pb_cmd_diff.proofs.MemberLemmas.{but_not, and_not, either, same_passes, passes_same}
 
@@ -47,7 +48,7 @@ found_named : (old new : Plan) (news : List Site) (s t : Site) → site_in old n
     → Contains news t × (t.port ≡ port_in old new s.port)
 found_named old new news s t e =
     let at = first-numbered (λ v. v.port == port_named new (port_name old s.port)) news t e in
-    (contains_at news at.0 t at.1, passes_same t.port (port_named new (port_name old s.port)) at.2)
+    (contained news at.0 t at.1, passes_same t.port (port_named new (port_name old s.port)) at.2)
 
 -- each member is made of a port of both
 made_of : (old new : Plan) (olds news : List Site) (m : Member) → Contains (members old new olds news) m

@@ -6,7 +6,7 @@ use Rattle.std.proofs.lemmas.Bool.Decides.{nat_tests}
 use Rattle.std.specs.List.{Contains, list_any}
 use Rattle.std.proofs.lemmas.List.Folds.{Any-from_list_any, list_any-from_Any}
 use Rattle.std.proofs.lemmas.List.Elements.{Contains-append_left, Contains-append_right, Contains-append_cases}
-use Rattle.pb_frame.proofs.Lists.{eqb-refl, Some-injective}
+use Rattle.pb_frame.proofs.Lists.{eqb-refl}
 
 -- an element is in a longer list
 pub contains_later : {X : Type 0} (y : X) (xs : List X) (x : X) → Contains xs x → Contains (y ∷ xs) x
@@ -20,12 +20,6 @@ contains_cases y xs x (suc k, less, is) = inr (k, omega (arith, less), is)
 -- nothing is in the empty list
 pub contains_none : {X : Type 0} (x : X) → Contains [] x → ⊥
 contains_none x (k, less, is) = omega (arith, less)
-
--- an element at an index is in the list
-pub contains_at : {X : Type 0} (xs : List X) (k : ℕ) (x : X) → slice_get xs k ≡ Some x → Contains xs x
-contains_at [] k x e = cc
-contains_at (y ∷ ys) zero x e = (0, omega arith, Some-injective e)
-contains_at (y ∷ ys) (suc k) x e = contains_later y ys x (contains_at ys k x e)
 
 -- an element of a list is at an index
 pub at_of : {X : Type 0} (xs : List X) (x : X) → Contains xs x → (k : ℕ) × (slice_get xs k ≡ Some x)

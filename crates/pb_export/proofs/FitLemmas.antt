@@ -4,8 +4,9 @@ use Rattle.std.proofs.Common.{drop, take, codes, decimal, refl, sym, ap, subst, 
 use Rattle.std.proofs.Common.{length-append, get_or, Bor, Option, Some, None}
 use Rattle.std.proofs.Common.{MatchOption}
 use Rattle.std.proofs.lemmas.Bool.{cases_lt}
-use Rattle.std.proofs.lemmas.List.{append_cancel_left, drop_at, take_at, drop_more, take_more, take-append-drop}
+use Rattle.std.proofs.lemmas.List.{append_cancel_left, take_at, drop_more, take_more, take-append-drop}
 use Rattle.std.proofs.lemmas.List.Elements.{All-push}
+use Rattle.std.proofs.Transfers.{drop-appended}
 use Rattle.std.specs.Prelude.{All, IfSome}
 use Rattle.pb_export.specs.Fitting.{spaces, Begins, IsCut, IsUpTo, AreWords, IsNumber, IsSpacedNumber, AreNumbers}
 use Rattle.pb_export.specs.Fitting.{Lacks, AreGroups, HasGroups, IsAfterEnding, IsAfterChoice, IsAfterValue, FitSlots}
@@ -17,10 +18,7 @@ use Rattle.pb_export.specs.declared.templates.Choice.{Choice}
 use Rattle.pb_export.specs.declared.templates.Slot.{Slot}
 use Rattle.pb_export.specs.declared.templates.Template.{Template}
 
--- the text from the place of a cut on
-pub seam : (front back text : List ℕ) → text ≡ front ++ back → drop (length front) text ≡ back
-seam front back text e = ap (drop (length front)) e ∙ drop_at front back (length front) refl
-
+-- the text up to the place of a cut
 front_seam : (front back text : List ℕ) → text ≡ front ++ back → take (length front) text ≡ front
 front_seam front back text e = ap (take (length front)) e ∙ take_at front back (length front) refl
 
@@ -28,12 +26,12 @@ front_seam front back text e = ap (take (length front)) e ∙ take_at front back
 same_cut : (text f b g d : List ℕ) → length f ≡ length g → text ≡ f ++ b → text ≡ g ++ d → (f ≡ g) × (b ≡ d)
 same_cut text f b g d same p q = (
   sym (front_seam f b text p) ∙ ap (λ n. take n text) same ∙ front_seam g d text q,
-  sym (seam f b text p) ∙ ap (λ n. drop n text) same ∙ seam g d text q,
+  sym (drop-appended f text b p) ∙ ap (λ n. drop n text) same ∙ drop-appended g text d q,
 )
 
 -- a text is cut in one way
 cut_here : (next text front back : List ℕ) → IsCut next text front back → Begins next (drop (length front) text)
-cut_here next text front back cut = subst (Begins next) (sym (seam front back text cut.text_is)) cut.next_is
+cut_here next text front back cut = subst (Begins next) (sym (drop-appended front text back cut.text_is)) cut.next_is
 
 pub cut_one : (next text f b g d : List ℕ) → IsCut next text f b → IsCut next text g d → (f ≡ g) × (b ≡ d)
 cut_one next text f b g d p q = elim (cases_lt (length f) (length g)) [
@@ -282,6 +280,6 @@ pub one_line : (line later text : List ℕ) → IsCut (10 ∷ []) text line (10 
 one_line line later text cut front rest e =
     cut.first (length front) (omega (arith, ap length e, length-append front (10 ∷ rest))) (
       rest ++ 10 ∷ later,
-      seam front (10 ∷ rest ++ 10 ∷ later) text
+      drop-appended front text (10 ∷ rest ++ 10 ∷ later)
           (cut.text_is ∙ ap (λ z. z ++ 10 ∷ later) e ∙ append_assoc front (10 ∷ rest) (10 ∷ later)),
     )

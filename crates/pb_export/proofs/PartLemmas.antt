@@ -7,6 +7,7 @@ use Rattle.std.proofs.lemmas.Fmt.{decimal_nonempty, IsAscii-decimal, parse-decim
 use Rattle.std.proofs.lemmas.List.{take-append-drop, take_at}
 use Rattle.std.proofs.lemmas.List.Prefix.{front_fits, front_reads}
 use Rattle.std.proofs.lemmas.Str.{IsCharBoundary-after_ascii}
+use Rattle.std.proofs.Transfers.{drop-appended}
 use Rattle.std.specs.Char.{is_ascii_digit}
 use Rattle.std.specs.List.{prefix_len}
 use Rattle.std.specs.Str.{IsCharBoundary, IsUtf8}
@@ -14,7 +15,6 @@ use Rattle.std.specs.Result.{result_ok}
 use Rattle.std.specs.Str.Parse.{ParsesUnsigned}
 use Rattle.std.specs.Str.Pattern.{FindsText, MatchBeginsAt, SplitsAroundMatch}
 use Rattle.pb_export.specs.Fitting.{Lacks, IsCut, IsUpTo, IsNumber}
-use Rattle.pb_export.proofs.FitLemmas.{seam}
 
 -- the place of a match cuts a text into these parts
 parts_are : (front back text : List ℕ) (k : ℕ) → front ≡ take k text → back ≡ drop k text → text ≡ front ++ back
@@ -27,7 +27,7 @@ pub around_first : (middle text : List ℕ) (r : Option (Bor (List ℕ) × Bor (
     → MatchOption r (Lacks middle text) (λ parts. IsCut middle text parts.0.now (middle ++ parts.1.now))
 around_first middle text None h =
     λ front rest e.
-    h (length front) (front_fits text front (middle ++ rest) e) rest (seam front (middle ++ rest) text e)
+    h (length front) (front_fits text front (middle ++ rest) e) rest (drop-appended front text (middle ++ rest) e)
 around_first middle text (Some x) h = record {
   text_is = parts_are x.0.now (middle ++ x.1.now) text h.0 h.3 (ap (λ z. middle ++ z) h.4 ∙ sym h.2.1.split);
   next_is = (x.1.now, refl);
@@ -54,7 +54,7 @@ pub before_none : (next text front back : List ℕ) → 0 < length next → Find
 before_none [] text front back some lacks cut = absurd (omega arith)
 before_none (c ∷ next) text front back some lacks cut =
     lacks (length front) (front_fits text front back cut.text_is) cut.next_is.0
-    (seam front back text cut.text_is ∙ cut.next_is.1)
+    (drop-appended front text back cut.text_is ∙ cut.next_is.1)
 
 -- a text may be cut after the digits of a number
 pub number_boundary : (n : ℕ) (text back : List ℕ) → IsUtf8 text → IsNumber n text back

@@ -8,14 +8,15 @@ use Rattle.std.proofs.lemmas.Option.{slice_get-get_or, slice_get_within}
 use Rattle.std.proofs.lemmas.List.FromFn.{get_or-range_with_len, length-range_with_len}
 use Rattle.std.specs.List.{range_with_len}
 use Rattle.std.proofs.lemmas.Bool.{cases_lt}
-use Rattle.pb_frame.proofs.Lists.{Some-injective}
+use Rattle.pb_frame.proofs.Lists.{All-at, Some-injective}
 use Rattle.pb_frame.proofs.Things.{one_less}
 use Rattle.pb_lan.proofs.ForestEdges.{turned}
 use Rattle.pb_lan.proofs.Numbers.{numbered-place}
 use Rattle.pb_lan.proofs.PortsInPlans.{sound-end}
 use Rattle.pb_lan.specs.Forests.{CrossesBy, HasEnds}
-use Rattle.pb_lan.specs.Plans.{IsSound, IsNumber, IsSoundEnd}
+use Rattle.pb_lan.specs.Plans.{IsSound, IsNumber, IsSoundCustomer, IsSoundEnd}
 use Rattle.pb_lan.specs.declared.plan.Plan.{Plan}
+use Rattle.pb_lan.specs.declared.plan.CustomerPlan.{CustomerPlan}
 use Rattle.pb_lan.specs.declared.plan.End.{End}
 use Rattle.pb_lan.specs.declared.plan.LinkPlan.{LinkPlan}
 use Rattle.pb_joins.specs.Joins.{Leads, AreJoined, mark_at, TellsJoined}
@@ -165,6 +166,16 @@ end_number plan sound k link e = (
   where
     few : (z : End) → IsSoundEnd plan z → IsNumber z.bridge 32
     few z s = (s.bridge.0, let up = s.bridge.1 in let most = sound.limits.bridges in omega (arith, up, most))
+
+-- a customer port of a sound plan is at a bridge 1 to 32
+pub customer_number : (plan : Plan) → IsSound plan → (k : ℕ) (c : CustomerPlan) → slice_get plan.customers k ≡ Some c
+    → IsNumber c.bridge 32
+customer_number plan sound k c at =
+    let bridge = (All-at (IsSoundCustomer plan) plan.customers k c at sound.customers).bridge in
+    let low = bridge.0 in
+    let high = bridge.1 in
+    let few = sound.limits.bridges in
+    (low, omega (arith, high, few))
 
 -- links with one mark at both ends keep that, and the next one has it after join
 pub closes_after : (plan : Plan) (test : LinkPlan → Bool) (i : ℕ) (marks : List ℕ) (link : LinkPlan) → IsSound plan

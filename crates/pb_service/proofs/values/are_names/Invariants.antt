@@ -1,9 +1,0 @@
-use Rattle.std.proofs.Common.{◌≡◌, drop}
-use Rattle.toml.specs.View.{items_view}
-use Rattle.pb_lan.specs.Names.{is_name}
-use Rattle.pb_service.specs.Values.{all_items, is_text}
-use Rattle.pb_service.proofs.values.are_names.Given as goal
-
-abbrev pub invariant-loop-item : goal.invariant-loop-item
-invariant-loop-item l = all_items (is_text is_name) (items_view l.items) ≡ all_items (is_text is_name)
-    (items_view (drop l.item-index l.items))
