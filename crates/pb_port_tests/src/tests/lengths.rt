@@ -5,7 +5,8 @@ ghost use Rattle.std.specs.Prelude.{◌≡◌};
 use super::cases::{Case, Devices, NOTHING, check};
 use super::device::{Manner, Parts, Seen};
 use super::rows::{Row, walk};
-use pb_port::{Device, Got, LengthField, PortFault, SocketPort};
+use bytes::Bytes;
+use pb_port::{Device, Got, LengthField, Polled, Port, PortFault, SocketPort};
 use std::alloc::{AllocError, Global};
 use std::process::Abort;
 use std::test::Fail;
@@ -171,4 +172,76 @@ const CUT: &[Stream] = &[
 #[test]
 fn reads_a_stream_that_ends_within_a_length_or_a_frame(rt: HostRuntime) {
     check_streams(&rt, rt.alloc(), CUT);
+}
+
+/// The number of frames of a stream that is long enough for memory to be used again.
+const MANY: u32 = 1_000;
+
+/// Returns the number of octets of a frame of that stream, 1 to 64, and their value.
+fn frame_at(number: u32) -> (u8, u8) {
+    (1 + (number % 64) as u8, (number % 251) as u8)
+}
+
+/// Returns the octets of that stream, with two octets of length before each frame.
+fn many_frames(alloc: Global) -> Result<Vec<u8>, AllocError> {
+    let mut octets = Vec::new(alloc);
+    for number in 0..MANY {
+        let (length, value) = frame_at(number);
+        octets.push(0)?;
+        octets.push(length)?;
+        for _ in 0..length {
+            octets.push(value)?;
+        }
+    }
+    Ok(octets)
+}
+
+/// Checks whether octets are the frame of a number.
+fn is_frame_at(octets: &[u8], number: u32) -> bool {
+    let (length, value) = frame_at(number);
+    octets.len() == usize::from(length) && octets.iter().all(|octet| *octet == value)
+}
+
+/// Returns how many frames in a row a port gives as they are in the stream. Each seventh of them is held, and counts
+/// once more if it is still the same after all have come.
+fn given(alloc: Global, octets: &[u8]) -> Result<(u32, u32), AllocError> {
+    let seen = Seen::new(&[]);
+    let stream = Mover {
+        rest: octets,
+        step: 1000,
+        seen: &seen,
+    };
+    let mut port = SocketPort::new(alloc, 5, LengthField::Two, stream);
+    let (mut held, mut right) = (Vec::new(alloc), 0u32);
+    for number in 0..MANY {
+        let Polled::Frame(frame) = port.poll() else {
+            break;
+        };
+        if is_frame_at(frame.as_slice(), number) {
+            right = right.saturating_add(1);
+        }
+        if number % 7 == 0 {
+            held.push(frame)?;
+        }
+    }
+    Ok((right, still_right(held.as_slice())))
+}
+
+/// Returns how many held frames are those of the numbers 0, 7, 14 and so on.
+fn still_right(held: &[Bytes]) -> u32 {
+    let (mut number, mut right) = (0u32, 0u32);
+    for frame in held {
+        if is_frame_at(frame.as_slice(), number) {
+            right = right.saturating_add(1);
+        }
+        number = number.saturating_add(7);
+    }
+    right
+}
+
+#[test]
+fn gives_frames_in_memory_of_earlier_ones(rt: HostRuntime) -> Result<(), Fail> {
+    let octets = many_frames(rt.alloc())?;
+    assert_eq!(&rt; given(rt.alloc(), &octets)?, (1_000, 143));
+    Ok(())
 }
