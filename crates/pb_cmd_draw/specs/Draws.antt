@@ -4,7 +4,7 @@ use Rattle.std.specs.Borrow.{Bor}
 use Rattle.std.specs.Io.KnownBytes.{Appends}
 use Rattle.std.specs.declared.option.Option.{Option}
 use Rattle.pb_converge.specs.Enough.{HasEnoughMemory}
-use Rattle.pb_converge.specs.Falls.{HaveFallen, IsRefused, fresh}
+use Rattle.pb_converge.specs.Falls.{HaveFallen, IsRefused, down_count, fresh}
 use Rattle.pb_lan.specs.LastShapes.{last_shape}
 use Rattle.pb_lan.specs.Records.{IsLawfulRecord}
 use Rattle.pb_lan.specs.declared.plan.Plan.{Plan}
@@ -86,6 +86,10 @@ pub record HasWritten (file : List ℕ) (asked : Asked) (end : DrawEnd) (before 
 abbrev pub HasTold : List ℕ → Asked → DrawEnd → Option (List ℕ) → Option (List ℕ) → Type 0
 HasTold file asked end before after = HasWritten file asked end before after ⊎ ((end ≡ Refused) × PrintsRefusal file before after)
 
--- the network of the plan in the file reaches the limit of steps of a place, or a billion events
-abbrev pub RunsIntoLimit : List ℕ → Type 0
-RunsIntoLimit file = (plan : Plan) × IsToldBy file plan × ReachesLimit 1000000000 (fresh plan)
+-- The network of the plan in the file reaches the limit of steps of a place, or a billion events that carry on what is
+-- on its way. Each bridge ticks at most as often as requested, no frame is polled, and only what the names disable is
+-- disabled.
+abbrev pub RunsIntoLimit : List ℕ → Asked → Type 0
+RunsIntoLimit file asked =
+    (plan : Plan) × IsToldBy file plan
+    × ReachesLimit asked.ticks 0 (down_count plan asked.downs.now) 1000000000 (fresh plan)

@@ -4,7 +4,7 @@ ghost use Rattle.std.specs.Prelude.{◌≡◌, ◌≢◌, ◌++◌, List, ℕ, t
 ghost use Rattle.std.specs.Io.KnownBytes.{Appends, Keeps};
 ghost use Rattle.pb_converge.specs.Drives.{IsCaused, ReachesLimit};
 ghost use Rattle.pb_converge.specs.Enough.{HasEnoughMemory};
-ghost use Rattle.pb_converge.specs.Falls.{fresh};
+ghost use Rattle.pb_converge.specs.Falls.{down_count, fresh};
 ghost use Rattle.pb_lan.specs.LastShapes.{last_shape};
 ghost use Rattle.pb_lan.specs.Plans.{IsSound};
 ghost use Rattle.pb_cmd_draw.specs.Draws.{is_found, chosen_of, IsPictureOf, IsDrawingFrom, HasDrawn, HasTold};
@@ -122,7 +122,7 @@ fn put_rested(
     requires plan { net.plan ≡ plan.now }
     ensures ok { IfOk result (λ rest. (text : List ℕ) × (string_bytes out.new ≡ string_bytes out.old ++ text)
         × IsDrawingFrom plan.now asked.now net rest text) }
-    ensures err { IfErr result (λ fault. IsCaused 1000000000 fault net) }
+    ensures err { IfErr result (λ fault. IsCaused asked.now.ticks 0 0 1000000000 fault net) }
 {
     let rest = settle(alloc, &mut net, plan, asked.ticks, MOST_EVENTS)?;
     let chosen = chosen_of(plan, asked.service);
@@ -150,7 +150,8 @@ fn put_fallen(
     requires found { is_found plan.now asked.now.service ≡ true }
     ensures ok { IfOk result (λ end. (text : List ℕ) × (string_bytes out.new ≡ string_bytes out.old ++ text)
         × HasDrawn plan.now asked.now end text) }
-    ensures err { IfErr result (λ fault. IsCaused 1000000000 fault (fresh plan.now)) }
+    ensures err { IfErr result (λ fault. IsCaused asked.now.ticks 0 (down_count plan.now asked.now.downs.now) 1000000000
+        fault (fresh plan.now)) }
 {
     let mut net = fresh(alloc, plan)?;
     match disables(alloc, &mut net, plan, asked.downs)? {
@@ -172,7 +173,8 @@ fn put_drawing(
     requires { IsSound plan.now }
     ensures ok { IfOk result (λ end. (text : List ℕ) × (string_bytes out.new ≡ string_bytes out.old ++ text)
         × HasDrawn plan.now asked.now end text) }
-    ensures err { IfErr result (λ fault. IsCaused 1000000000 fault (fresh plan.now)) }
+    ensures err { IfErr result (λ fault. IsCaused asked.now.ticks 0 (down_count plan.now asked.now.downs.now) 1000000000
+        fault (fresh plan.now)) }
 {
     if is_found(plan, asked.service) {
         put_fallen(alloc, out, plan, asked)
@@ -192,7 +194,8 @@ fn draw<W: Write>(
     ensures ok { IfOk result (λ end. (text : List ℕ) × Appends (W.contents writer.old) (W.contents writer.new) text
         × HasDrawn plan.now asked.now end text) }
     ensures kinds { IfErr result (λ e. e ≢ CommandFault.Read) }
-    ensures steps { IfErr result (λ e. e ≡ CommandFault.Steps → ReachesLimit 1000000000 (fresh plan.now)) }
+    ensures steps { IfErr result (λ e. e ≡ CommandFault.Steps
+        → ReachesLimit asked.now.ticks 0 (down_count plan.now asked.now.downs.now) 1000000000 (fresh plan.now)) }
     ensures none { IfErr result (λ e. e ≢ CommandFault.Write → Keeps (W.contents writer.old) (W.contents writer.new)) }
 {
     let mut out = String::new(alloc);
@@ -231,7 +234,7 @@ pub fn run_draw<W: Write>(
 ) -> Result<DrawEnd, CommandFault>
     ensures ok { IfOk result (λ end. HasTold file.now asked.now end (W.contents writer.old) (W.contents writer.new)) }
     ensures kinds { IfErr result (λ e. e ≢ CommandFault.Read) }
-    ensures steps { IfErr result (λ e. e ≡ CommandFault.Steps → RunsIntoLimit file.now) }
+    ensures steps { IfErr result (λ e. e ≡ CommandFault.Steps → RunsIntoLimit file.now asked.now) }
     ensures none { IfErr result (λ e. e ≢ CommandFault.Write → Keeps (W.contents writer.old) (W.contents writer.new)) }
 {
     match read_plan(alloc, file) {

@@ -1,8 +1,7 @@
 -- The command: frames are injected one after the other, and the lines show where each goes.
-use Rattle.std.specs.Prelude.{◌≡◌, ℕ, true, List, [], ◌++◌, Option, Some, None, flat_map}
+use Rattle.std.specs.Prelude.{◌≡◌, ℕ, List, [], ◌++◌, Option, Some, None, flat_map}
 use Rattle.std.specs.Io.KnownBytes.{Appends, Keeps}
-use Rattle.pb_converge.specs.Drives.{ReachesLimit}
-use Rattle.pb_converge.specs.Falls.{IsRefused, fresh_by}
+use Rattle.pb_converge.specs.Falls.{IsRefused}
 use Rattle.pb_converge.specs.Rests.{rest_line}
 use Rattle.pb_converge.specs.declared.rest.Rest.{Rest}
 use Rattle.pb_lan.specs.declared.plan.Plan.{Plan}
@@ -12,7 +11,7 @@ use Rattle.pb_report.specs.Refusals.{PrintsRefusal}
 use Rattle.pb_cmd_trace.specs.Lines.{line_text}
 use Rattle.pb_cmd_trace.specs.Stories.{LacksPort, LacksFrame}
 use Rattle.pb_cmd_trace.specs.Summaries.{round_line, summary_line}
-use Rattle.pb_cmd_trace.specs.Tracings.{IsReport}
+use Rattle.pb_cmd_trace.specs.Tracings.{IsReport, TracingReachesLimit}
 use Rattle.pb_cmd_trace.specs.declared.asked.Asked.{Asked}
 use Rattle.pb_cmd_trace.specs.declared.end.TraceEnd.{TraceEnd}
 use Rattle.pb_cmd_trace.specs.declared.end.TraceEnd.TheVariants.{Told, Refused, NoPort, NoFrame, NoDown}
@@ -63,6 +62,6 @@ HasTold file asked (NoPort index) before after = (plan : Plan) × IsToldBy file 
 HasTold file asked (NoFrame index) before after = (plan : Plan) × IsToldBy file plan × HasTraced plan asked (NoFrame index) before after
 HasTold file asked (NoDown fault) before after = (plan : Plan) × IsToldBy file plan × HasTraced plan asked (NoDown fault) before after
 
--- the network of the plan in the file reaches the limit of steps of a place, or a million events
-abbrev pub RunsIntoLimit : List ℕ → Type 0
-RunsIntoLimit file = (plan : Plan) × IsToldBy file plan × ReachesLimit 1000000 (fresh_by true plan)
+-- the plan is in the file, and its network reaches a limit
+abbrev pub RunsIntoLimit : List ℕ → Asked → Type 0
+RunsIntoLimit file asked = (plan : Plan) × IsToldBy file plan × TracingReachesLimit plan asked

@@ -1,7 +1,9 @@
 -- The traces of frames in the network of a plan.
-use Rattle.std.specs.Prelude.{◌≡◌}
+use Rattle.std.specs.Prelude.{◌≡◌, true, length, unwrap_or}
 use Rattle.pb_converge.specs.Enough.{HasEnoughMemory}
-use Rattle.pb_converge.specs.Falls.{HaveFallen, IsRefused}
+use Rattle.pb_converge.specs.Drives.{IsCaused, ReachesLimit}
+use Rattle.pb_converge.specs.Falls.{HaveFallen, IsRefused, down_count, fresh_by}
+use Rattle.pb_converge.specs.declared.fault.DriveFault.{DriveFault}
 use Rattle.pb_lan.specs.LastShapes.{last_shape}
 use Rattle.pb_lan.specs.Records.{IsLawfulRecord}
 use Rattle.pb_lan.specs.declared.plan.Plan.{Plan}
@@ -47,3 +49,15 @@ IsTracing plan asked (Told report) = IsReport plan asked report
 IsTracing plan asked (NoPort index) = LacksPort plan asked.entries.now index
 IsTracing plan asked (NoFrame index) = LacksFrame asked.entries.now index
 IsTracing plan asked (NoDown fault) = IsRefused plan asked.downs.now fault
+
+-- the network of the plan reaches the limit of steps of a place, or a million events that carry on what is on its way:
+-- each bridge ticks at most as often as requested until convergence, no frames are polled but those to trace, and only
+-- what the names disable is disabled
+abbrev pub TracingReachesLimit : Plan → Asked → Type 0
+TracingReachesLimit plan asked = ReachesLimit (unwrap_or asked.settle 0) (length asked.entries.now)
+    (down_count plan asked.downs.now) 1000000 (fresh_by true plan)
+
+-- why tracing ended with a fault: so, unless an allocation failed
+abbrev pub IsTracingFault : Plan → Asked → DriveFault → Type 0
+IsTracingFault plan asked fault = IsCaused (unwrap_or asked.settle 0) (length asked.entries.now)
+    (down_count plan asked.downs.now) 1000000 fault (fresh_by true plan)

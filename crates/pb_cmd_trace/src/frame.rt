@@ -69,7 +69,7 @@ fn finish(lines: &mut Vec<TraceLine>, plan: &Plan, net: &mut Net) -> Result<(), 
     ensures plan { net.new.plan ≡ plan.now }
     ensures ok { OnOk result ((others : ℕ) × HasDrained others net.old net.new
         × (lines.new.items ≡ lines.old.items ++ Others others ∷ [])) }
-    ensures err { IfErr result (λ fault. IsCaused 1000000 fault net.old) }
+    ensures err { IfErr result (λ fault. IsCaused 0 0 0 1000000 fault net.old) }
 {
     match drain(net, plan, MOST_OTHERS) {
         Ok(others) => Ok(push_others(lines, others)?),
@@ -90,7 +90,7 @@ fn conclude(
     ensures plan { net.new.plan ≡ plan.now }
     ensures ok { IfOk result (λ fate. (more : List TraceLine) × (lines.new.items ≡ lines.old.items ++ more)
         × IsConclusion course fate number net.old net.new more) }
-    ensures err { IfErr result (λ fault. IsCaused 1000000 fault net.old) }
+    ensures err { IfErr result (λ fault. IsCaused 0 0 0 1000000 fault net.old) }
 {
     match course {
         Course::GoesRound => Ok(Fate::GoesRound(number)),
@@ -117,7 +117,7 @@ fn follow(
     ensures plan { net.new.plan ≡ plan.now }
     ensures ok { IfOk result (λ fate. (more : List TraceLine) × (lines.new.items ≡ lines.old.items ++ more)
         × IsFollowed plan.now port fate net.old net.new more) }
-    ensures err { IfErr result (λ fault. IsCaused 1000000 fault net.old) }
+    ensures err { IfErr result (λ fault. IsCaused 0 0 0 1000000 fault net.old) }
 {
     let number = tell_entry(lines, net, port)?;
     let course = walk(alloc, lines, plan, net, port)?;
@@ -139,7 +139,7 @@ pub(crate) fn trace_frame(
     ensures plan { net.new.plan ≡ plan.now }
     ensures ok { IfOk result (λ fate. (more : List TraceLine) × (lines.new.items ≡ lines.old.items ++ more)
         × AnswersFrame plan.now port frame fate net.old net.new more) }
-    ensures err { IfErr result (λ fault. IsCaused 1000000 fault net.old) }
+    ensures err { IfErr result (λ fault. IsCaused 0 1 0 1000000 fault net.old) }
 {
     match net.step(Event::Poll { port, frame }) {
         Ok(Did::Done(_)) => follow(alloc, lines, plan, net, port),

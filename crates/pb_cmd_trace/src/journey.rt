@@ -1,6 +1,6 @@
 //! The traces of several frames, one after the other.
 
-ghost use Rattle.std.specs.Prelude.{◌≡◌, ◌++◌, List, true, IfOk, IfErr};
+ghost use Rattle.std.specs.Prelude.{◌≡◌, ◌++◌, List, length, true, IfOk, IfErr};
 ghost use Rattle.pb_converge.specs.Drives.{IsCaused};
 ghost use Rattle.pb_lan.specs.Plans.{IsSound};
 ghost use Rattle.pb_cmd_trace.specs.Stories.{AnswersEntry, HasJourneyed};
@@ -42,7 +42,7 @@ fn trace_entry(
     ensures plan { net.new.plan ≡ plan.now }
     ensures ok { IfOk result (λ fate. (more : List TraceLine) × (lines.new.items ≡ lines.old.items ++ more)
         × AnswersEntry plan.now entry.now fate net.old net.new more) }
-    ensures err { IfErr result (λ fault. IsCaused 1000000 fault net.old) }
+    ensures err { IfErr result (λ fault. IsCaused 0 1 0 1000000 fault net.old) }
 {
     let port = port_named(plan, entry.port.as_str());
     match read_frame(alloc, entry.hex.as_bytes())? {
@@ -65,7 +65,7 @@ pub(crate) fn travel(
     ensures plan { net.new.plan ≡ plan.now }
     ensures ok { IfOk result (λ journey. (more : List TraceLine) × (lines.new.items ≡ lines.old.items ++ more)
         × HasJourneyed plan.now entries.now journey net.old net.new more) }
-    ensures err { IfErr result (λ fault. IsCaused 1000000 fault net.old) }
+    ensures err { IfErr result (λ fault. IsCaused 0 (length entries.now) 0 1000000 fault net.old) }
 {
     for (index, entry) in entries.iter().enumerate() {
         match trace_entry(alloc, lines, plan, net, entry)? {

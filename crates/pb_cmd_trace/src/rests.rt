@@ -1,6 +1,6 @@
 //! Convergence before the first frame.
 
-ghost use Rattle.std.specs.Prelude.{◌≡◌, IfErr, IfOk};
+ghost use Rattle.std.specs.Prelude.{◌≡◌, unwrap_or, IfErr, IfOk};
 ghost use Rattle.pb_converge.specs.Drives.{IsCaused};
 ghost use Rattle.pb_lan.specs.Plans.{IsSound};
 ghost use Rattle.pb_cmd_trace.specs.Stories.{HasBegun};
@@ -24,7 +24,7 @@ pub(crate) fn begin(
     requires plan { net.old.plan ≡ plan.now }
     ensures plan { net.new.plan ≡ plan.now }
     ensures ok { IfOk result (HasBegun most net.old net.new) }
-    ensures err { IfErr result (λ fault. IsCaused 1000000 fault net.old) }
+    ensures err { IfErr result (λ fault. IsCaused (unwrap_or most 0) 0 0 1000000 fault net.old) }
 {
     let Some(ticks) = most else {
         return Ok(None);

@@ -2,13 +2,12 @@
 
 ghost use Rattle.std.specs.Prelude.{◌≡◌, ◌≢◌, ◌++◌, List, ℕ, true, string_bytes, IfOk, IfErr, OnOk};
 ghost use Rattle.std.specs.Io.KnownBytes.{Keeps};
-ghost use Rattle.pb_converge.specs.Drives.{IsCaused, ReachesLimit};
-ghost use Rattle.pb_converge.specs.Falls.{fresh_by};
 ghost use Rattle.pb_lan.specs.Plans.{IsSound};
 ghost use Rattle.pb_lan.specs.Records.{IsLawfulRecord};
 ghost use Rattle.pb_relay.specs.Protocol.{spanning_tree};
 ghost use Rattle.pb_cmd_trace.specs.Traces.{AnswersTrace, HasTold, HasTraced, RunsIntoLimit, end_lines, head_text};
 ghost use Rattle.pb_cmd_trace.specs.Traces.{trace_text};
+ghost use Rattle.pb_cmd_trace.specs.Tracings.{IsTracingFault, TracingReachesLimit};
 
 use crate::asked::Asked;
 use crate::end::TraceEnd;
@@ -77,7 +76,7 @@ fn put_trace(
     requires { IsSound plan.now }
     ensures ok { IfOk result (λ end. (text : List ℕ) × (string_bytes out.new ≡ string_bytes out.old ++ text)
         × AnswersTrace plan.now asked.now end text) }
-    ensures err { IfErr result (λ fault. IsCaused 1000000 fault (fresh_by true plan.now)) }
+    ensures err { IfErr result (IsTracingFault plan.now asked.now) }
 {
     match trace_plan(alloc, plan, asked)? {
         Tracing::Told(report) => {
@@ -101,7 +100,7 @@ fn write_trace<W: Write>(
     ensures ok { IfOk result (λ end. HasTraced plan.now asked.now end (W.contents writer.old)
         (W.contents writer.new)) }
     ensures kinds { IfErr result (λ e. e ≢ CommandFault.Read) }
-    ensures steps { IfErr result (λ e. e ≡ CommandFault.Steps → ReachesLimit 1000000 (fresh_by true plan.now)) }
+    ensures steps { IfErr result (λ e. e ≡ CommandFault.Steps → TracingReachesLimit plan.now asked.now) }
     ensures none { IfErr result (λ e. e ≢ CommandFault.Write → Keeps (W.contents writer.old) (W.contents writer.new)) }
 {
     let mut out = String::new(alloc);
@@ -164,7 +163,7 @@ pub fn run_trace<W: Write>(
     ensures ok { IfOk result (λ end. HasTold file.now asked.now end (W.contents writer.old)
         (W.contents writer.new)) }
     ensures kinds { IfErr result (λ e. e ≢ CommandFault.Read) }
-    ensures steps { IfErr result (λ e. e ≡ CommandFault.Steps → RunsIntoLimit file.now) }
+    ensures steps { IfErr result (λ e. e ≡ CommandFault.Steps → RunsIntoLimit file.now asked.now) }
     ensures none { IfErr result (λ e. e ≢ CommandFault.Write → Keeps (W.contents writer.old) (W.contents writer.new)) }
 {
     match read_plan(alloc, file) {

@@ -1,6 +1,6 @@
 //! The traces of frames in the network of a plan.
 
-ghost use Rattle.std.specs.Prelude.{◌≡◌, true, IfOk, IfErr};
+ghost use Rattle.std.specs.Prelude.{◌≡◌, length, unwrap_or, true, IfOk, IfErr};
 ghost use Rattle.pb_converge.specs.Drives.{IsCaused};
 ghost use Rattle.pb_converge.specs.Enough.{HasEnoughMemory};
 ghost use Rattle.pb_converge.specs.Falls.{fresh_by};
@@ -10,7 +10,7 @@ ghost use Rattle.pb_lan.specs.Plans.{IsSound};
 ghost use Rattle.pb_lan.specs.Records.{IsLawfulRecord};
 ghost use Rattle.pb_lan.specs.declared.step.Place.TheVariants.{Customer};
 ghost use Rattle.pb_relay.specs.Protocol.{spanning_tree};
-ghost use Rattle.pb_cmd_trace.specs.Tracings.{EndsTracing, IsTracing};
+ghost use Rattle.pb_cmd_trace.specs.Tracings.{EndsTracing, IsTracing, IsTracingFault};
 
 use crate::asked::Asked;
 use crate::journey::{Journey, travel};
@@ -94,7 +94,8 @@ fn follow_all(
     requires plan { net.plan ≡ plan.now }
     requires kept { net.is_kept ≡ true }
     ensures ok { IfOk result (EndsTracing plan.now asked.now net) }
-    ensures err { IfErr result (λ fault. IsCaused 1000000 fault net) }
+    ensures err { IfErr result (λ fault.
+        IsCaused (unwrap_or asked.now.settle 0) (length asked.now.entries.now) 0 1000000 fault net) }
 {
     let rest = begin(alloc, plan, &mut net, asked.settle)?;
     steps_are_lawful(&net);
@@ -140,7 +141,7 @@ fn kept(alloc: Global, plan: &Plan) -> Result<Net, Memory>
 pub fn trace_plan(alloc: Global, plan: &Plan, asked: &Asked<'_>) -> Result<Tracing, DriveFault>
     requires { IsSound plan.now }
     ensures ok { IfOk result (IsTracing plan.now asked.now) }
-    ensures err { IfErr result (λ fault. IsCaused 1000000 fault (fresh_by true plan.now)) }
+    ensures err { IfErr result (IsTracingFault plan.now asked.now) }
 {
     let mut net = kept(alloc, plan)?;
     match disables(alloc, &mut net, plan, asked.downs)? {

@@ -66,7 +66,7 @@ fn go_on(
     ensures plan { net.new.plan ≡ plan.now }
     ensures ok { IfOk result (λ went. GoesOn went plan.now onward net.old net.new todo.old.items todo.new.items
         lines.old.items lines.new.items) }
-    ensures err { IfErr result (λ fault. IsCaused 1000000 fault net.old) }
+    ensures err { IfErr result (λ fault. IsCaused 0 0 0 1000000 fault net.old) }
 {
     match net.step(event_of(onward)) {
         Ok(Did::Done(place)) => {
@@ -94,7 +94,7 @@ fn walk_on(
     ensures plan { net.new.plan ≡ plan.now }
     ensures ok { IfOk result (λ course. (more : List TraceLine) × (lines.new.items ≡ lines.old.items ++ more)
         × HasWalked plan.now todo.old.items course net.old net.new more) }
-    ensures err { IfErr result (λ fault. IsCaused 1000000 fault net.old) }
+    ensures err { IfErr result (λ fault. IsCaused 0 0 0 1000000 fault net.old) }
 {
     for _ in 0..MOST_EVENTS {
         let Some(onward) = todo.pop() else {
@@ -132,7 +132,7 @@ pub(crate) fn walk(
     ensures plan { net.new.plan ≡ plan.now }
     ensures ok { IfOk result (λ course. (more : List TraceLine) × (lines.new.items ≡ lines.old.items ++ more)
         × HasWalked plan.now (Feed port ∷ []) course net.old net.new more) }
-    ensures err { IfErr result (λ fault. IsCaused 1000000 fault net.old) }
+    ensures err { IfErr result (λ fault. IsCaused 0 0 0 1000000 fault net.old) }
 {
     let mut todo = feeding(alloc, port)?;
     walk_on(lines, plan, net, &mut todo)

@@ -4,7 +4,7 @@ use Rattle.std.specs.Io.KnownBytes.{Appends, Keeps}
 use Rattle.std.specs.Global.{Global}
 use Rattle.std.specs.declared.string.String.{String}
 use Rattle.pb_converge.specs.Enough.{HasEnoughMemory}
-use Rattle.pb_converge.specs.Falls.{HaveFallen, IsRefused, fresh}
+use Rattle.pb_converge.specs.Falls.{HaveFallen, IsRefused, down_count, fresh}
 use Rattle.pb_converge.specs.declared.falling.DownFault.{DownFault}
 use Rattle.pb_lan.specs.Records.{IsLawfulRecord}
 use Rattle.pb_lan.specs.declared.plan.Plan.{Plan}
@@ -51,6 +51,8 @@ HasTold file downs ticks Told before after = (plan : Plan) × IsToldBy file plan
 HasTold file downs ticks Refused before after = PrintsRefusal file before after
 HasTold file downs ticks (NoDown fault) before after = (plan : Plan) × IsToldBy file plan × HasPrinted plan downs ticks (Some fault) before after
 
--- the network of the plan in the file reaches the limit of steps of a place, or a billion events
-abbrev pub RunsIntoLimit : List ℕ → Type 0
-RunsIntoLimit file = (plan : Plan) × IsToldBy file plan × ReachesLimit 1000000000 (fresh plan)
+-- The network of the plan in the file reaches the limit of steps of a place, or a billion events that carry on what is
+-- on its way. Each bridge ticks at most so many times, no frame is polled, and only what the names disable is disabled.
+abbrev pub RunsIntoLimit : List ℕ → List (String Global) → ℕ → Type 0
+RunsIntoLimit file downs ticks =
+    (plan : Plan) × IsToldBy file plan × ReachesLimit ticks 0 (down_count plan downs) 1000000000 (fresh plan)

@@ -4,7 +4,7 @@ ghost use Rattle.std.specs.Prelude.{◌≡◌, ◌≢◌, ◌++◌, List, ℕ, s
 ghost use Rattle.std.specs.Io.KnownBytes.{Appends, Keeps};
 ghost use Rattle.pb_converge.specs.Drives.{IsCaused, ReachesLimit};
 ghost use Rattle.pb_converge.specs.Enough.{HasEnoughMemory};
-ghost use Rattle.pb_converge.specs.Falls.{fresh};
+ghost use Rattle.pb_converge.specs.Falls.{down_count, fresh};
 ghost use Rattle.pb_lan.specs.LastShapes.{last_shape};
 ghost use Rattle.pb_lan.specs.Plans.{IsSound};
 ghost use Rattle.pb_report.specs.ForestTexts.{IsForestText};
@@ -76,7 +76,7 @@ fn put_rested(
     requires plan { net.plan ≡ plan.now }
     ensures ok { OnOk result ((text : List ℕ) × (string_bytes out.new ≡ string_bytes out.old ++ text)
         × AreTreesFrom plan.now ticks net text) }
-    ensures err { IfErr result (λ fault. IsCaused 1000000000 fault net) }
+    ensures err { IfErr result (λ fault. IsCaused ticks 0 0 1000000000 fault net) }
 {
     let rest = settle(alloc, &mut net, plan, ticks, MOST_EVENTS)?;
     match plan.spanning {
@@ -104,7 +104,8 @@ fn put_trees_with_downs(
     requires { IsSound plan.now }
     ensures ok { IfOk result (λ lacking. (text : List ℕ) × (string_bytes out.new ≡ string_bytes out.old ++ text)
         × ReturnsTrees plan.now downs.now ticks lacking text) }
-    ensures err { IfErr result (λ fault. IsCaused 1000000000 fault (fresh plan.now)) }
+    ensures err { IfErr result (λ fault.
+        IsCaused ticks 0 (down_count plan.now downs.now) 1000000000 fault (fresh plan.now)) }
 {
     let mut net = fresh(alloc, plan)?;
     match disables(alloc, &mut net, plan, downs)? {
@@ -129,7 +130,8 @@ fn print_trees<W: Write>(
     ensures ok { IfOk result (λ lacking.
         HasPrinted plan.now downs.now ticks lacking (W.contents writer.old) (W.contents writer.new)) }
     ensures kinds { IfErr result (λ e. e ≢ CommandFault.Read) }
-    ensures steps { IfErr result (λ e. e ≡ CommandFault.Steps → ReachesLimit 1000000000 (fresh plan.now)) }
+    ensures steps { IfErr result (λ e. e ≡ CommandFault.Steps
+        → ReachesLimit ticks 0 (down_count plan.now downs.now) 1000000000 (fresh plan.now)) }
     ensures none { IfErr result (λ e. e ≢ CommandFault.Write → Keeps (W.contents writer.old) (W.contents writer.new)) }
 {
     let mut out = String::new(alloc);
@@ -181,7 +183,7 @@ pub fn run_tree<W: Write>(
     ensures ok { IfOk result (λ end.
         HasTold file.now downs.now ticks end (W.contents writer.old) (W.contents writer.new)) }
     ensures kinds { IfErr result (λ e. e ≢ CommandFault.Read) }
-    ensures steps { IfErr result (λ e. e ≡ CommandFault.Steps → RunsIntoLimit file.now) }
+    ensures steps { IfErr result (λ e. e ≡ CommandFault.Steps → RunsIntoLimit file.now downs.now ticks) }
     ensures none { IfErr result (λ e. e ≢ CommandFault.Write → Keeps (W.contents writer.old) (W.contents writer.new)) }
 {
     match read_plan(alloc, file) {

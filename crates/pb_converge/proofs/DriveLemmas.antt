@@ -2,10 +2,9 @@
 use Rattle.std.proofs.Common.{◌≡◌, ◌≤◌, ◌<◌, ◌+◌, ◌-◌, ℕ, Bool, true, List, [], ◌∷◌, ◌++◌, length, Ok, Err, refl, sym}
 use Rattle.std.proofs.Common.{ap}
 use Rattle.std.proofs.Common.{subst, ◌∙◌, arith, length-append}
-use Rattle.pb_frame.proofs.Lists.{All-append, All-imply}
+use Rattle.pb_frame.proofs.Counting.{count_by-append}
+use Rattle.pb_frame.proofs.Lists.{All-append}
 use Rattle.pb_lan.specs.declared.event.Event.{Event}
-use Rattle.pb_lan.specs.declared.event.Event.TheVariants.{Poll, Feed, Deliver, Receive, Transmit, Tick, Admin, Take}
-use Rattle.pb_lan.specs.declared.event.Event.TheVariants.{Put}
 use Rattle.pb_lan.specs.declared.step.Place.{Place}
 use Rattle.pb_net.specs.Answers.{NetView, IsAnswer}
 use Rattle.std.specs.declared.result.Result.{Result}
@@ -13,7 +12,8 @@ use Rattle.pb_net.specs.declared.did.Did.{Did}
 use Rattle.pb_net.specs.declared.did.Did.TheVariants.{Idle, Done}
 use Rattle.pb_net.specs.declared.fault.NetFault.{NetFault}
 use Rattle.pb_net.specs.declared.fault.NetFault.TheVariants.{StepLimit, Memory, NoSuch}
-use Rattle.pb_converge.specs.Drives.{is_onward, is_onward_or_tick, HaveDone, HaveGone, HasStopped, HasBeenDriven}
+use Rattle.pb_converge.proofs.FewLemmas.{few-none, few-append, few-lower, few-onward, count-onward}
+use Rattle.pb_converge.specs.Drives.{is_onward, HaveDone, HaveGone, HasStopped, HasBeenDriven}
 use Rattle.pb_converge.specs.Drives.{IsAtLimit, IsReason, IsRefusal}
 use Rattle.pb_converge.specs.declared.fault.DriveFault.{DriveFault}
 use Rattle.pb_converge.specs.declared.fault.DriveFault.TheVariants.{Memory as drive_memory, Steps, Events}
@@ -87,21 +87,13 @@ refusal_is_reason Steps most count net h = h
 refusal_is_reason Events most count net h = absurd h
 
 -- a reason to end early is one with earlier events too
-pub reason-later : (fault : DriveFault) (most a b c : ℕ) (net : NetView) → a ≤ most → a ≤ b
-    → IsReason fault (most - a) c net → IsReason fault most (b + c) net
-reason-later drive_memory most a b c net within least h = tt
-reason-later Steps most a b c net within least h = h
-reason-later Events most a b c net within least h =
+pub reason-later : (fault : DriveFault) (most a c : ℕ) (net : NetView) → a ≤ most → IsReason fault (most - a) c net
+    → IsReason fault most (a + c) net
+reason-later drive_memory most a c net within h = tt
+reason-later Steps most a c net within h = h
+reason-later Events most a c net within h =
     let rest : most - a < c = h in
-    omega (arith, within, least, rest)
-
-pub reason-more : (fault : DriveFault) (most b c : ℕ) (net : NetView) → IsReason fault most c net
-    → IsReason fault most (b + c) net
-reason-more drive_memory most b c net h = tt
-reason-more Steps most b c net h = h
-reason-more Events most b c net h =
-    let past : most < c = h in
-    omega (arith, past)
+    omega (arith, within, rest)
 
 pub stopped-over : (most : ℕ) (old new : NetView) (event : Event) (place : Place) → most ≡ 0 → is_onward event ≡ true
     → IsAnswer old event (Ok (Done place)) new → HasStopped most Events old new
@@ -129,43 +121,31 @@ stopped-full most old new event h = record {
 pub stopped-later : (most a : ℕ) (fault : DriveFault) (old mid new : NetView) → HaveGone is_onward a old mid
     → a ≤ most → HasStopped (most - a) fault mid new → HasStopped most fault old new
 stopped-later most a fault old mid new g within s =
-    let least : a ≤ a = omega arith in
     record {
       count = a + s.count;
       gone = gone-append is_onward a s.count old mid new g s.gone;
       too_many = λ is. omega (arith, s.too_many is, within);
       within = λ other. omega (arith, s.within other, within);
-      reason = reason-later fault most a a s.count new within least s.reason;
+      reason = reason-later fault most a s.count new within s.reason;
     }
 
--- an event that carries on what is on its way is one of the wider kind with ticks
-is_wider : (event : Event) → is_onward event ≡ true → is_onward_or_tick event ≡ true
-is_wider (Poll port frame) h = h
-is_wider (Feed port) h = refl
-is_wider (Deliver port) h = refl
-is_wider (Receive bridge port) h = refl
-is_wider (Transmit bridge port) h = refl
-is_wider (Tick bridge) h = refl
-is_wider (Admin bridge port up) h = h
-is_wider (Take lane) h = refl
-is_wider (Put lane) h = refl
+pub driven-none : (ticks : ℕ) (old new : NetView) → new ≡ old → HasBeenDriven ticks 0 old new
+driven-none ticks old new e = record { events = []; done = e; few = few-none ticks 0 0; number = refl }
 
-pub gone-wider : (count : ℕ) (old new : NetView) → HaveGone is_onward count old new
-    → HaveGone is_onward_or_tick count old new
-gone-wider count old new g = record {
-  events = g.events;
-  kinds = All-imply (λ e. is_onward e ≡ true) (λ e. is_onward_or_tick e ≡ true) is_wider g.events g.kinds;
-  done = g.done;
-  number = g.number;
+pub driven-append : {t t' a b : ℕ} (ticks count : ℕ) (old mid new : NetView) → t + t' ≤ ticks → a + b ≡ count
+    → HasBeenDriven t a old mid → HasBeenDriven t' b mid new → HasBeenDriven ticks count old new
+driven-append ticks count old mid new le e f s = record {
+  events = f.events ++ s.events;
+  done = done-append old mid new f.events s.events f.done s.done;
+  few = few-lower (f.events ++ s.events) le (omega arith) (omega arith) (few-append f.events s.events f.few s.few);
+  number = omega (arith, e, count_by-append is_onward f.events s.events, f.number, s.number);
 }
 
-pub driven-none : (old new : NetView) → new ≡ old → HasBeenDriven old new
-driven-none old new e = record { count = 0; gone = gone-none is_onward_or_tick old new e }
-
-pub driven-append : (old mid new : NetView) → HasBeenDriven old mid → HasBeenDriven mid new → HasBeenDriven old new
-driven-append old mid new f s =
-    record {
-      count = f.count + s.count;
-      gone = gone-append is_onward_or_tick f.count s.count old mid new f.gone
-          s.gone;
-    }
+-- events that carry on what is on its way
+pub driven-gone : (count : ℕ) (old new : NetView) → HaveGone is_onward count old new → HasBeenDriven 0 count old new
+driven-gone count old new g = record {
+  events = g.events;
+  done = g.done;
+  few = few-onward g.events g.kinds;
+  number = count-onward g.events g.kinds ∙ g.number;
+}

@@ -1,3 +1,4 @@
+pub mod FewLemmas
 pub mod DriveLemmas
 pub mod SweepLemmas
 pub mod TickLemmas

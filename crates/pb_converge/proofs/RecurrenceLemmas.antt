@@ -8,8 +8,8 @@ use Rattle.pb_net.specs.Answers.{NetView}
 use Rattle.pb_relay.specs.Settled.{machines_in}
 use Rattle.pb_rstp.specs.Ports.{Machine}
 use Rattle.pb_converge.proofs.TickLemmas.{rounds-more}
-use Rattle.pb_converge.specs.Drives.{AreRounds, IsRound, HaveGoneRounds, HasRecurred, IsAtEnd, is_lossless}
-use Rattle.pb_converge.specs.Recurrence.{IsMarkedAnew, HasFound, Notes}
+use Rattle.pb_converge.specs.Drives.{IsRound, HaveGoneRounds, IsAtEnd, is_lossless}
+use Rattle.pb_converge.specs.Recurrence.{Notes}
 use Rattle.pb_converge.specs.declared.recurrence.Watch.{Watch}
 
 -- one round more

@@ -1,17 +1,19 @@
 -- Rounds in which each bridge ticks once.
-use Rattle.std.proofs.Common.{◌≡◌, ◌≤◌, ◌<◌, ◌+◌, ◌-◌, ℕ, zero, suc, true, List, [], ◌∷◌, ◌++◌, map, length}
-use Rattle.std.proofs.Common.{slice_get, is_some}
+use Rattle.std.proofs.Common.{◌≡◌, ◌≤◌, ◌<◌, ◌+◌, ◌-◌, ◌==◌, inl, inr, ℕ, zero, suc, Bool, true, false}
+use Rattle.std.proofs.Common.{List, [], ◌∷◌, ◌++◌, map, length, slice_get, is_some}
 use Rattle.std.proofs.Common.{refl, sym, ap, subst, ◌∙◌, arith, append_assoc, append-nil}
-use Rattle.std.specs.List.{AllByRecursion}
-use Rattle.pb_frame.proofs.Lists.{All-append}
+use Rattle.std.proofs.lemmas.Bool.{cases_eq}
+use Rattle.std.specs.List.{count_by}
+use Rattle.pb_frame.proofs.Counting.{one_if, count_by-append, count_by-cons}
+use Rattle.pb_lan.proofs.PortBits.{unequal}
 use Rattle.pb_lan.specs.Numbering.{numbered, numbers_from}
 use Rattle.pb_lan.specs.declared.event.Event.{Event}
 use Rattle.pb_lan.specs.declared.event.Event.TheVariants.{Tick}
 use Rattle.pb_net.specs.Answers.{NetView}
-use Rattle.pb_converge.proofs.DriveLemmas.{done-append, driven-none, gone-append, gone-wider, reason-later, reason-more}
+use Rattle.pb_converge.proofs.DriveLemmas.{done-append, driven-append, driven-gone, driven-none, reason-later}
 use Rattle.pb_converge.proofs.DriveLemmas.{refusal_is_reason}
-use Rattle.pb_converge.specs.Drives.{is_onward_or_tick, HaveDone, HasBeenDriven, HasStopped, HasTicked, IsRound}
-use Rattle.pb_converge.specs.Drives.{AreRounds, HasFailed, IsRefusal}
+use Rattle.pb_converge.specs.Drives.{is_onward, is_tick_of, is_poll, is_admin, HaveDone, HasBeenDriven, HasStopped}
+use Rattle.pb_converge.specs.Drives.{AreRounds, HasFailed, HasTicked, IsRefusal, IsRound}
 use Rattle.pb_converge.specs.declared.fault.DriveFault.{DriveFault}
 use Rattle.pb_converge.specs.declared.fault.DriveFault.TheVariants.{Memory}
 
@@ -43,23 +45,67 @@ ticks_to-all xs =
     let e : 0 + length xs ≡ length xs = omega arith in
     ap ticks_to (sym e) ∙ ticks_from 0 xs ∙ ap (λ z. z ++ map (λ k. Tick k) (numbers_from 1 xs)) ticks_to-none
 
-ticks_to-kinds : (n : ℕ) → AllByRecursion (λ e. is_onward_or_tick e ≡ true) (ticks_to n)
+-- no event of another kind is among the ticks
+no_others : (t : Event → Bool) → ((k : ℕ) → t (Tick k) ≡ false) → (n : ℕ) → count_by t (ticks_to n) ≡ 0
 unfolding ticks_to
-ticks_to-kinds zero = tt
-ticks_to-kinds (suc n) = All-append (λ e. is_onward_or_tick e ≡ true) (ticks_to n) (Tick (suc n) ∷ [])
-    (ticks_to-kinds n) (refl, tt)
+no_others t never zero = refl
+no_others t never (suc n) =
+    let one : one_if (t (Tick (suc n))) ≡ 0 = ap one_if (never (suc n)) in
+    omega (
+      arith,
+      count_by-append t (ticks_to n) (Tick (suc n) ∷ []),
+      count_by-cons t (Tick (suc n)) [],
+      one,
+      no_others t never n,
+    )
 
-pub driven-ticks : (n : ℕ) (old new : NetView) → HaveDone old (ticks_to n) new → HasBeenDriven old new
-driven-ticks n old new h =
-    record {
-      count = length (ticks_to n);
-      gone = record {
-        events = ticks_to n;
-        kinds = ticks_to-kinds n;
-        done = h;
-        number = refl;
-      };
-    }
+-- no tick of a later bridge is among them, and one of each at most
+not_yet : (b n : ℕ) → n < b → count_by (is_tick_of b) (ticks_to n) ≡ 0
+unfolding ticks_to
+not_yet b zero h = refl
+not_yet b (suc n) h =
+    let other : (b == suc n) ≡ false = unequal b (suc n) (λ e. absurd (omega (arith, h, e))) in
+    let one : one_if (b == suc n) ≡ 0 = ap one_if other in
+    omega (
+      arith,
+      count_by-append (is_tick_of b) (ticks_to n) (Tick (suc n) ∷ []),
+      count_by-cons (is_tick_of b) (Tick (suc n)) [],
+      one,
+      not_yet b n (omega (arith, h)),
+    )
+
+once : (b n : ℕ) → count_by (is_tick_of b) (ticks_to n) ≤ 1
+unfolding ticks_to
+once b zero = omega arith
+once b (suc n) =
+    let parts = count_by-append (is_tick_of b) (ticks_to n) (Tick (suc n) ∷ []) in
+    let last : count_by (is_tick_of b) (Tick (suc n) ∷ []) ≡ one_if (b == suc n) + 0 =
+    count_by-cons (is_tick_of b) (Tick (suc n)) [] in
+    elim (cases_eq b (suc n)) [
+      | inl e ↦
+          let none = not_yet b n (omega (arith, e)) in
+          let one = at_most (b == suc n) in
+          omega (arith, parts, last, none, one)
+      | inr ne ↦
+          let one : one_if (b == suc n) ≡ 0 = ap one_if (unequal b (suc n) ne) in
+          omega (arith, parts, last, one, once b n)
+    ]
+  where
+    at_most : (x : Bool) → one_if x ≤ 1
+    at_most true = omega arith
+    at_most false = omega arith
+
+pub driven-ticks : (n : ℕ) (old new : NetView) → HaveDone old (ticks_to n) new → HasBeenDriven 1 0 old new
+driven-ticks n old new h = record {
+  events = ticks_to n;
+  done = h;
+  few = record {
+    ticked = λ b. once b n;
+    polled = omega (arith, no_others is_poll (λ k. refl) n);
+    switched = omega (arith, no_others is_admin (λ k. refl) n);
+  };
+  number = no_others is_onward (λ k. refl) n;
+}
 
 -- one more bridge has ticked
 pub ticked-more : (n : ℕ) (old mid new : NetView) → HaveDone old (ticks_to n) mid
@@ -86,40 +132,27 @@ pub has_ticked : (n : ℕ) (old new : NetView) → n ≡ length old.plan.bridges
     → HasTicked old new
 has_ticked n old new e h = subst (λ es. HaveDone old es new) (ap ticks_to e ∙ ticks_to-all old.plan.bridges) h
 
-pub driven-ticked : (old new : NetView) → HasTicked old new → HasBeenDriven old new
+driven-ticked : (old new : NetView) → HasTicked old new → HasBeenDriven 1 0 old new
 driven-ticked old new h = driven-ticks (length old.plan.bridges) old new
     (subst (λ es. HaveDone old es new) (sym (ticks_to-all old.plan.bridges)) h)
 
-pub driven-round : (count : ℕ) (old new : NetView) → IsRound count old new
-    → (d : HasBeenDriven old new) × (count ≤ d.count)
-driven-round count old new r =
-    let d = driven-ticked old r.ticked r.ticks in
-    let least : count ≤ d.count + count = omega arith in (
-      record {
-        count = d.count + count;
-        gone = gone-append is_onward_or_tick d.count count old r.ticked new d.gone
-            (gone-wider count r.ticked new r.drained.gone);
-      },
-      least,
-    )
+driven-round : (count : ℕ) (old new : NetView) → IsRound count old new → HasBeenDriven 1 count old new
+driven-round count old new r = driven-append 1 count old r.ticked new (omega arith) (omega arith) (driven-ticked old r.ticked r.ticks)
+    (driven-gone count r.ticked new r.drained.gone)
 
 -- an error of a tick, or of an event after the ticks of a round
-pub failed-ticks : (most : ℕ) (fault : DriveFault) (old new : NetView) → HasBeenDriven old new → IsRefusal fault new
-    → HasFailed most fault old new
+pub failed-ticks : (most : ℕ) (fault : DriveFault) (old new : NetView) → HasBeenDriven 1 0 old new
+    → IsRefusal fault new → HasFailed 1 most fault old new
 failed-ticks most fault old new d h =
-    record { driven = d; reason = refusal_is_reason fault most d.count new h }
+    record { count = 0; driven = d; reason = refusal_is_reason fault most 0 new h }
 
 pub failed-stopped : (most : ℕ) (fault : DriveFault) (old mid new : NetView) → HasTicked old mid
-    → HasStopped most fault mid new → HasFailed most fault old new
-failed-stopped most fault old mid new t s =
-    let d = driven-ticked old mid t in
-    record {
-      driven = record {
-        count = d.count + s.count;
-        gone = gone-append is_onward_or_tick d.count s.count old mid new d.gone (gone-wider s.count mid new s.gone);
-      };
-      reason = reason-more fault most d.count s.count new s.reason;
-    }
+    → HasStopped most fault mid new → HasFailed 1 most fault old new
+failed-stopped most fault old mid new t s = record {
+  count = s.count;
+  driven = driven-append 1 s.count old mid new (omega arith) (omega arith) (driven-ticked old mid t) (driven-gone s.count mid new s.gone);
+  reason = s.reason;
+}
 
 -- one more round
 pub rounds-more : (ticks a b : ℕ) (old mid new : NetView) → AreRounds ticks a old mid → IsRound b mid new
@@ -128,42 +161,30 @@ rounds-more ticks a b old mid new rs r = let e : suc ticks ≡ ticks + 1 =
     omega arith in subst (λ n. AreRounds n (a + b) old new) e (mid, a, b, refl, rs, r)
 
 pub driven-rounds : (ticks count : ℕ) (old new : NetView) → AreRounds ticks count old new
-    → (d : HasBeenDriven old new) × (count ≤ d.count)
+    → HasBeenDriven ticks count old new
 driven-rounds zero count old new h =
-    let d = driven-none old new h.1 in
-    let least : count ≤ d.count = omega (arith, h.0) in
-    (d, least)
+    subst (λ n. HasBeenDriven zero n old new) (sym h.0) (driven-none zero old new h.1)
 driven-rounds (suc ticks) count old new (between, before, more, e, rs, r) =
-    let f = driven-rounds ticks before old between rs in
-    let s = driven-round more between new r in
-    let least : count ≤ f.0.count + s.0.count = omega (arith, e, f.1, s.1) in (
-      record {
-        count = f.0.count + s.0.count;
-        gone = gone-append is_onward_or_tick f.0.count s.0.count old between new f.0.gone s.0.gone;
-      },
-      least,
-    )
+    driven-append (suc ticks) count old between new (omega arith) e (driven-rounds ticks before old between rs)
+    (driven-round more between new r)
 
 -- an error after some rounds, and one of a look after them
-pub failed-later : (ticks most a : ℕ) (fault : DriveFault) (old mid new : NetView) → AreRounds ticks a old mid
-    → a ≤ most → HasFailed (most - a) fault mid new → HasFailed most fault old new
-failed-later ticks most a fault old mid new rs within f =
-    let d = driven-rounds ticks a old mid rs in
-    let more = f.driven in
-    record {
-      driven = record {
-        count = d.0.count + more.count;
-        gone = gone-append is_onward_or_tick d.0.count more.count old mid new d.0.gone more.gone;
-      };
-      reason = reason-later fault most a d.0.count more.count new within d.1 f.reason;
-    }
+pub failed-later : (rounds ticks most a : ℕ) (fault : DriveFault) (old mid new : NetView) → rounds + 1 ≤ ticks
+    → AreRounds rounds a old mid → a ≤ most → HasFailed 1 (most - a) fault mid new → HasFailed ticks most fault old new
+failed-later rounds ticks most a fault old mid new le rs within f = record {
+  count = a + f.count;
+  driven = driven-append ticks (a + f.count) old mid new le refl (driven-rounds rounds a old mid rs) f.driven;
+  reason = reason-later fault most a f.count new within f.reason;
+}
 
 -- an error before the first event
-pub failed-first : (most : ℕ) (net : NetView) → HasFailed most Memory net net
-failed-first most net = record { driven = driven-none net net refl; reason = tt }
+pub failed-first : (ticks most : ℕ) (net : NetView) → HasFailed ticks most Memory net net
+failed-first ticks most net = record { count = 0; driven = driven-none ticks net net refl; reason = tt }
 
-pub failed-look : (ticks most a b : ℕ) (old mid new : NetView) → AreRounds ticks a old mid → IsRound b mid new
-    → HasFailed most Memory old new
-failed-look ticks most a b old mid new rs r =
-    let d = driven-rounds (ticks + 1) (a + b) old new (rounds-more ticks a b old mid new rs r) in
-    record { driven = d.0; reason = tt }
+pub failed-look : (rounds ticks most a b : ℕ) (old mid new : NetView) → rounds + 1 ≤ ticks → AreRounds rounds a old mid
+    → IsRound b mid new → HasFailed ticks most Memory old new
+failed-look rounds ticks most a b old mid new le rs r = record {
+  count = a + b;
+  driven = driven-append ticks (a + b) old mid new le refl (driven-rounds rounds a old mid rs) (driven-round b mid new r);
+  reason = tt;
+}

@@ -1,6 +1,6 @@
 -- A network that is driven by events alone.
-use Rattle.std.specs.Prelude.{◌≡◌, ◌≤◌, ◌<◌, ◌⊎◌, ◌+◌, ◌-◌, ◌*◌, ◌&&◌, ℕ, zero, suc, ◌==◌, Bool, true, false, List, [], ◌∷◌, map, length, Some, Ok}
-use Rattle.std.specs.List.{AllByRecursion, list_all}
+use Rattle.std.specs.Prelude.{◌≡◌, ◌≤◌, ◌<◌, ◌⊎◌, ◌+◌, ◌-◌, ◌*◌, ◌&&◌, ℕ, zero, suc, ◌==◌, Bool, true, false, List, [], ◌∷◌, ◌++◌, map, length, Some, Ok}
+use Rattle.std.specs.List.{AllByRecursion, count_by, list_all}
 use Rattle.pb_lan.specs.Events.{place_of, names_something, is_idle, is_at_limit}
 use Rattle.pb_lan.specs.Numbering.{numbers_from}
 use Rattle.pb_lan.specs.declared.event.Event.{Event}
@@ -24,11 +24,25 @@ is_onward (Tick bridge) = false
 is_onward (Admin bridge port up) = false
 is_onward event = true
 
--- the event carries on what is on its way, or is a tick
-abbrev pub is_onward_or_tick : Event → Bool
-is_onward_or_tick (Poll port frame) = false
-is_onward_or_tick (Admin bridge port up) = false
-is_onward_or_tick event = true
+-- the event is a tick of this bridge, polls a frame, enables or disables a port
+abbrev pub is_tick_of : ℕ → Event → Bool
+is_tick_of bridge (Tick other) = bridge == other
+is_tick_of bridge event = false
+
+abbrev pub is_poll : Event → Bool
+is_poll (Poll port frame) = true
+is_poll event = false
+
+abbrev pub is_admin : Event → Bool
+is_admin (Admin bridge port up) = true
+is_admin event = false
+
+-- among the events are at most so many ticks of each bridge, so many that poll a frame, and so many that enable or
+-- disable a port
+pub record AreFew (ticks polls admins : ℕ) (events : List Event) : Type 0 where
+  pub ticked : (bridge : ℕ) → count_by (is_tick_of bridge) events ≤ ticks
+  pub polled : count_by is_poll events ≤ polls
+  pub switched : count_by is_admin events ≤ admins
 
 -- the events were performed one after the other: at each, its place took a step
 abbrev pub HaveDone : NetView → List Event → NetView → Type 0
@@ -65,7 +79,7 @@ IsRefusal Memory net = Unit {0}
 IsRefusal Steps net = IsAtLimit net
 IsRefusal Events net = ⊥
 
--- why driving ended early after this many events: so, or they are more than `most`
+-- why driving ended early after this many events that carry on what is on its way: so, or they are more than `most`
 abbrev pub IsReason : DriveFault → ℕ → ℕ → NetView → Type 0
 IsReason Memory most count net = Unit {0}
 IsReason Steps most count net = IsAtLimit net
@@ -79,36 +93,43 @@ pub record HasStopped (most : ℕ) (fault : DriveFault) (old new : NetView) : Ty
   pub within : (fault ≡ Events → ⊥) → count ≤ most
   pub reason : IsReason fault most count new
 
--- some events were performed, among them ticks
-pub record HasBeenDriven (old new : NetView) : Type 0 where
-  pub count : ℕ
-  pub gone : HaveGone is_onward_or_tick count old new
+-- events were performed: at most so many ticks of each bridge, and this many that carry on what is on its way
+pub record HasBeenDriven (ticks count : ℕ) (old new : NetView) : Type 0 where
+  pub events : List Event
+  pub done : HaveDone old events new
+  pub few : AreFew ticks 0 0 events
+  pub number : count_by is_onward events ≡ count
 
 -- so, and then there was a reason to end early
-pub record HasFailed (most : ℕ) (fault : DriveFault) (old new : NetView) : Type 0 where
-  pub driven : HasBeenDriven old new
-  pub reason : IsReason fault most driven.count new
+pub record HasFailed (ticks most : ℕ) (fault : DriveFault) (old new : NetView) : Type 0 where
+  pub count : ℕ
+  pub driven : HasBeenDriven ticks count old new
+  pub reason : IsReason fault most count new
 
--- some events were performed, and the next one was not
-pub record HasBroken (fault : DriveFault) (old new : NetView) : Type 0 where
+-- the first of these events were performed, and then one was not
+pub record HasBroken (due : List Event) (fault : DriveFault) (old new : NetView) : Type 0 where
   pub events : List Event
+  pub later : List Event
+  pub parts : events ++ later ≡ due
   pub done : HaveDone old events new
   pub refusal : IsRefusal fault new
 
--- some events were performed one after the other, no allocation failed in them, and then one was due at a place that
--- may take no more steps, or they are more than `most`
-pub record ReachesLimit (most : ℕ) (old : NetView) : Type 0 where
+-- Some events were performed one after the other, among them only so many ticks of each bridge, polled frames, and
+-- enabled or disabled ports. No allocation failed in them. Then an event was due at a place that may take no more
+-- steps, or more than `most` of them carry on what is on its way.
+pub record ReachesLimit (ticks polls admins most : ℕ) (old : NetView) : Type 0 where
   pub events : List Event
   pub new : NetView
   pub done : HaveDone old events new
+  pub few : AreFew ticks polls admins events
   pub enough : HasEnoughMemory new.rec
-  pub limit : IsAtLimit new ⊎ (most < length events)
+  pub limit : IsAtLimit new ⊎ (most < count_by is_onward events)
 
 -- why driving a network ended with a fault: a limit was reached, unless an allocation failed
-abbrev pub IsCaused : ℕ → DriveFault → NetView → Type 0
-IsCaused most Memory old = Unit {0}
-IsCaused most Steps old = ReachesLimit most old
-IsCaused most Events old = ReachesLimit most old
+abbrev pub IsCaused : ℕ → ℕ → ℕ → ℕ → DriveFault → NetView → Type 0
+IsCaused ticks polls admins most Memory old = Unit {0}
+IsCaused ticks polls admins most Steps old = ReachesLimit ticks polls admins most old
+IsCaused ticks polls admins most Events old = ReachesLimit ticks polls admins most old
 
 -- each bridge has ticked once, in the plan's order
 abbrev pub HasTicked : NetView → NetView → Type 0

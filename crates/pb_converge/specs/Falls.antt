@@ -1,5 +1,5 @@
 -- The ends of links that names disable.
-use Rattle.std.specs.Prelude.{◌≡◌, ◌||◌, ℕ, Bool, true, false, List, ◌++◌, Some, None, Option, map, slice_get, string_bytes, codes, if◌then◌else◌}
+use Rattle.std.specs.Prelude.{◌≡◌, ◌||◌, ℕ, Bool, true, false, List, ◌++◌, Some, None, Option, length, map, slice_get, string_bytes, codes, if◌then◌else◌}
 use Rattle.std.specs.Fmt.{decimal}
 use Rattle.std.specs.Global.{Global}
 use Rattle.std.specs.List.{AllByRecursion, filter, flat_map, list_any}
@@ -47,6 +47,10 @@ set_down e = Admin e.bridge e.port false
 -- the events that disable what the names disable, in order
 abbrev pub downs : Plan → List (String Global) → List Event
 downs plan names = flat_map (λ w. map set_down (all_down plan (string_bytes w))) names
+
+-- how many of them there are
+abbrev pub down_count : Plan → List (String Global) → ℕ
+down_count plan names = length (downs plan names)
 
 -- the text is BRIDGE:PORT for an end of this link
 abbrev pub has_port : Plan → List ℕ → LinkPlan → Bool

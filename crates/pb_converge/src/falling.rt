@@ -9,6 +9,7 @@ ghost use Rattle.pb_converge.specs.Drives.{HasBroken, HaveDone};
 ghost use Rattle.pb_converge.specs.Enough.{HasEnoughMemory};
 ghost use Rattle.pb_converge.specs.Falls.{
   all_down,
+  downs,
   ends_down,
   end_name,
   fails,
@@ -135,7 +136,7 @@ fn fall(net: &mut Net, plan: &Plan, end: &End) -> Result<(), DriveFault>
     requires there { is_provider (port_at plan.now end.now.bridge end.now.port) ≡ true }
     ensures plan { OnOk result (net.new.plan ≡ plan.now) }
     ensures done { OnOk result (HaveDone net.old (set_down end.now ∷ []) net.new) }
-    ensures err { IfErr result (λ fault. HasBroken fault net.old net.new) }
+    ensures err { IfErr result (λ fault. HasBroken (set_down end.now ∷ []) fault net.old net.new) }
 {
     let (bridge, port, up) = (end.bridge, end.port, false);
     match net.step(Event::Admin { bridge, port, up }) {
@@ -163,7 +164,8 @@ fn fall_if_named(
     ensures plan { OnOk result (net.new.plan ≡ plan.now) }
     ensures done { OnOk result (HaveDone net.old
         (map set_down (filter (λ e. same name.now (end_name plan.now e)) (end.now ∷ []))) net.new) }
-    ensures err { IfErr result (λ fault. HasBroken fault net.old net.new) }
+    ensures err { IfErr result (λ fault. HasBroken
+        (map set_down (filter (λ e. same name.now (end_name plan.now e)) (end.now ∷ []))) fault net.old net.new) }
 {
     if is_named(alloc, plan, end, name)? {
         fall(net, plan, end)?;
@@ -202,7 +204,8 @@ fn fall_link(
     requires b { is_provider (port_at plan.now link.now.b.bridge link.now.b.port) ≡ true }
     ensures plan { OnOk result (net.new.plan ≡ plan.now) }
     ensures done { OnOk result (HaveDone net.old (map set_down (ends_down plan.now name.now link.now)) net.new) }
-    ensures err { IfErr result (λ fault. HasBroken fault net.old net.new) }
+    ensures err { IfErr result (λ fault.
+        HasBroken (map set_down (ends_down plan.now name.now link.now)) fault net.old net.new) }
 {
     if fails(plan, name, link) {
         fall(net, plan, &link.a)?;
@@ -223,7 +226,8 @@ fn fall_named(alloc: Global, net: &mut Net, plan: &Plan, name: &str) -> Result<(
     requires plan { net.old.plan ≡ plan.now }
     ensures plan { OnOk result (net.new.plan ≡ plan.now) }
     ensures done { OnOk result (HaveDone net.old (map set_down (all_down plan.now name.now)) net.new) }
-    ensures err { IfErr result (λ fault. HasBroken fault net.old net.new) }
+    ensures err { IfErr result (λ fault.
+        HasBroken (map set_down (all_down plan.now name.now)) fault net.old net.new) }
 {
     for link in plan.links.as_slice() {
         fall_link(alloc, net, plan, name, link)?;
@@ -242,7 +246,7 @@ fn fall_all(
     requires fresh { net.old ≡ fresh_by net.old.is_kept plan.now }
     ensures kept { OnOk result (net.new.is_kept ≡ net.old.is_kept) }
     ensures falls { MatchResult result (λ fault. AnswersFalls plan.now names.now fault net.new)
-        (λ fault. HasBroken fault net.old net.new) }
+        (λ fault. HasBroken (downs plan.now names.now) fault net.old net.new) }
 {
     for (index, name) in names.iter().enumerate() {
         match judge(alloc, plan, name.as_str(), index)? {
@@ -274,7 +278,7 @@ pub fn disables(
     requires fresh { net.old ≡ fresh_by net.old.is_kept plan.now }
     ensures kept { OnOk result (net.new.is_kept ≡ net.old.is_kept) }
     ensures falls { IfOk result (λ fault. AnswersFalls plan.now names.now fault net.new) }
-    ensures err { IfErr result (λ fault. HasBroken fault net.old net.new) }
+    ensures err { IfErr result (λ fault. HasBroken (downs plan.now names.now) fault net.old net.new) }
     ensures enough { IfErr result (λ fault. fault ≢ DriveFault.Memory → HasEnoughMemory net.new.rec) }
 {
     match fall_all(alloc, net, plan, names) {

@@ -46,7 +46,7 @@ fn tick_all(net: &mut Net, plan: &Plan) -> Result<(), DriveFault>
     requires plan { net.old.plan ≡ plan.now }
     ensures plan { net.new.plan ≡ plan.now }
     ensures ok { OnOk result (HasTicked net.old net.new) }
-    ensures err { IfErr result (λ _. HasBeenDriven net.old net.new) }
+    ensures err { IfErr result (λ _. HasBeenDriven 1 0 net.old net.new) }
     ensures refusal { IfErr result (λ fault. IsRefusal fault net.new) }
 {
     for place in 0..plan.bridges.len() {
@@ -63,7 +63,7 @@ fn round(net: &mut Net, plan: &Plan, left: u64) -> Result<u64, DriveFault>
     ensures plan { net.new.plan ≡ plan.now }
     ensures within { IfOk result (λ done. done ≤ left) }
     ensures ok { IfOk result (λ done. IsRound done net.old net.new) }
-    ensures err { IfErr result (λ fault. HasFailed left fault net.old net.new) }
+    ensures err { IfErr result (λ fault. HasFailed 1 left fault net.old net.new) }
 {
     tick_all(net, plan)?;
     drain(net, plan, left)
@@ -98,7 +98,7 @@ fn rounds(
     requires protocol { plan.now.spanning ≡ by_protocol }
     ensures plan { net.new.plan ≡ plan.now }
     ensures ok { IfOk result (λ rest. HasRested most events rest net.old net.new) }
-    ensures err { IfErr result (λ fault. HasFailed events fault net.old net.new) }
+    ensures err { IfErr result (λ fault. HasFailed most events fault net.old net.new) }
 {
     let mut was_settled = false;
     let mut done = 0;
@@ -124,7 +124,7 @@ fn go_round(net: &mut Net, plan: &Plan, ticks: u32, events: u64) -> Result<(), D
     requires plan { net.old.plan ≡ plan.now }
     ensures plan { net.new.plan ≡ plan.now }
     ensures ok { OnOk result (HasGoneRound ticks events net.old net.new) }
-    ensures err { IfErr result (λ fault. HasFailed events fault net.old net.new) }
+    ensures err { IfErr result (λ fault. HasFailed ticks events fault net.old net.new) }
 {
     let mut done = 0;
     for _tick in 0..ticks {
@@ -147,7 +147,7 @@ pub fn stand(net: &mut Net, plan: &Plan, ticks: u32, events: u64) -> Result<(), 
     requires plan { net.old.plan ≡ plan.now }
     ensures plan { net.new.plan ≡ plan.now }
     ensures ok { OnOk result (HasStood plan.now.spanning ticks events net.old net.new) }
-    ensures err { IfErr result (λ fault. HasFailed events fault net.old net.new) }
+    ensures err { IfErr result (λ fault. HasFailed ticks events fault net.old net.new) }
     ensures enough { IfErr result (λ fault. fault ≢ DriveFault.Memory → HasEnoughMemory net.new.rec) }
 {
     match plan.spanning {
@@ -184,7 +184,7 @@ pub fn settle(
     requires plan { net.old.plan ≡ plan.now }
     ensures plan { net.new.plan ≡ plan.now }
     ensures ok { IfOk result (λ rest. HasRested most events rest net.old net.new) }
-    ensures err { IfErr result (λ fault. HasFailed events fault net.old net.new) }
+    ensures err { IfErr result (λ fault. HasFailed most events fault net.old net.new) }
     ensures enough { IfErr result (λ fault. fault ≢ DriveFault.Memory → HasEnoughMemory net.new.rec) }
 {
     match plan.spanning {

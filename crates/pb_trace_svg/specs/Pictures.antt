@@ -50,17 +50,17 @@ AnswersPicture plan asked (NoFrame index) text = LacksFrame asked.entries.now in
 AnswersPicture plan asked (NoDown fault) text = IsRefused plan asked.downs.now fault
 
 -- the picture was written after the earlier output; or something is missing or refused, and nothing was written
-abbrev pub HasDrawn : Plan → Asked → TraceEnd → Option (List ℕ) → Option (List ℕ) → Type 0
-HasDrawn plan asked Told before after = (text : List ℕ) × Appends before after text × IsPicture plan asked text
-HasDrawn plan asked Refused before after = ⊥
-HasDrawn plan asked (NoPort index) before after = LacksPort plan asked.entries.now index × Keeps before after
-HasDrawn plan asked (NoFrame index) before after = LacksFrame asked.entries.now index × Keeps before after
-HasDrawn plan asked (NoDown fault) before after = IsRefused plan asked.downs.now fault × Keeps before after
+abbrev pub WritesPicture : Plan → Asked → TraceEnd → Option (List ℕ) → Option (List ℕ) → Type 0
+WritesPicture plan asked Told before after = (text : List ℕ) × Appends before after text × IsPicture plan asked text
+WritesPicture plan asked Refused before after = ⊥
+WritesPicture plan asked (NoPort index) before after = LacksPort plan asked.entries.now index × Keeps before after
+WritesPicture plan asked (NoFrame index) before after = LacksFrame asked.entries.now index × Keeps before after
+WritesPicture plan asked (NoDown fault) before after = IsRefused plan asked.downs.now fault × Keeps before after
 
 -- what the command has written: the picture for the plan of the file, or the rule that the file breaks
 abbrev pub HasShown : List ℕ → Asked → TraceEnd → Option (List ℕ) → Option (List ℕ) → Type 0
 HasShown file asked Refused before after = PrintsRefusal file before after
-HasShown file asked Told before after = (plan : Plan) × IsToldBy file plan × HasDrawn plan asked Told before after
-HasShown file asked (NoPort index) before after = (plan : Plan) × IsToldBy file plan × HasDrawn plan asked (NoPort index) before after
-HasShown file asked (NoFrame index) before after = (plan : Plan) × IsToldBy file plan × HasDrawn plan asked (NoFrame index) before after
-HasShown file asked (NoDown fault) before after = (plan : Plan) × IsToldBy file plan × HasDrawn plan asked (NoDown fault) before after
+HasShown file asked Told before after = (plan : Plan) × IsToldBy file plan × WritesPicture plan asked Told before after
+HasShown file asked (NoPort index) before after = (plan : Plan) × IsToldBy file plan × WritesPicture plan asked (NoPort index) before after
+HasShown file asked (NoFrame index) before after = (plan : Plan) × IsToldBy file plan × WritesPicture plan asked (NoFrame index) before after
+HasShown file asked (NoDown fault) before after = (plan : Plan) × IsToldBy file plan × WritesPicture plan asked (NoDown fault) before after

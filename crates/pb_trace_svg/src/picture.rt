@@ -2,12 +2,11 @@
 
 ghost use Rattle.std.specs.Prelude.{◌≡◌, ◌≢◌, ◌++◌, List, ℕ, true, string_bytes, IfOk, IfErr, OnOk};
 ghost use Rattle.std.specs.Io.KnownBytes.{Keeps};
-ghost use Rattle.pb_converge.specs.Drives.{IsCaused, ReachesLimit};
-ghost use Rattle.pb_converge.specs.Falls.{fresh_by};
 ghost use Rattle.pb_lan.specs.Plans.{IsSound};
 ghost use Rattle.pb_cmd_draw.specs.Failures.{failures_of};
 ghost use Rattle.pb_cmd_trace.specs.Traces.{RunsIntoLimit};
-ghost use Rattle.pb_trace_svg.specs.Pictures.{AnswersPicture, HasDrawn, HasShown, IsPictureOf, over_text};
+ghost use Rattle.pb_cmd_trace.specs.Tracings.{IsTracingFault, TracingReachesLimit};
+ghost use Rattle.pb_trace_svg.specs.Pictures.{AnswersPicture, WritesPicture, HasShown, IsPictureOf, over_text};
 
 use crate::hops::hops_in;
 use crate::marks::{HopMark, marks_of};
@@ -91,7 +90,7 @@ fn put_trace(
     requires { IsSound plan.now }
     ensures ok { IfOk result (λ end. (text : List ℕ) × (string_bytes out.new ≡ string_bytes out.old ++ text)
         × AnswersPicture plan.now asked.now end text) }
-    ensures err { IfErr result (λ fault. IsCaused 1000000 fault (fresh_by true plan.now)) }
+    ensures err { IfErr result (IsTracingFault plan.now asked.now) }
 {
     match trace_plan(alloc, plan, asked)? {
         Tracing::Told(report) => {
@@ -112,10 +111,10 @@ fn write_trace<W: Write>(
     writer: &mut W,
 ) -> Result<TraceEnd, CommandFault>
     requires { IsSound plan.now }
-    ensures ok { IfOk result (λ end. HasDrawn plan.now asked.now end (W.contents writer.old)
+    ensures ok { IfOk result (λ end. WritesPicture plan.now asked.now end (W.contents writer.old)
         (W.contents writer.new)) }
     ensures kinds { IfErr result (λ e. e ≢ CommandFault.Read) }
-    ensures steps { IfErr result (λ e. e ≡ CommandFault.Steps → ReachesLimit 1000000 (fresh_by true plan.now)) }
+    ensures steps { IfErr result (λ e. e ≡ CommandFault.Steps → TracingReachesLimit plan.now asked.now) }
     ensures none { IfErr result (λ e. e ≢ CommandFault.Write → Keeps (W.contents writer.old) (W.contents writer.new)) }
 {
     let mut out = String::new(alloc);
@@ -167,7 +166,7 @@ pub fn run_trace_svg<W: Write>(
     ensures ok { IfOk result (λ end. HasShown file.now asked.now end (W.contents writer.old)
         (W.contents writer.new)) }
     ensures kinds { IfErr result (λ e. e ≢ CommandFault.Read) }
-    ensures steps { IfErr result (λ e. e ≡ CommandFault.Steps → RunsIntoLimit file.now) }
+    ensures steps { IfErr result (λ e. e ≡ CommandFault.Steps → RunsIntoLimit file.now asked.now) }
     ensures none { IfErr result (λ e. e ≢ CommandFault.Write → Keeps (W.contents writer.old) (W.contents writer.new)) }
 {
     match read_plan(alloc, file) {

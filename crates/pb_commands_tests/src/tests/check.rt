@@ -11,7 +11,7 @@ mod examples;
 mod settled;
 
 use pb_cmd_check::{run_check, run_show};
-use pb_fakes::{Full, Unflushed};
+use pb_fakes::{Full, Unflushed, plans};
 use pb_messages::CommandFault;
 use std::alloc::Global;
 use std::io::Write;
@@ -230,5 +230,5 @@ fn shows_sixteen_fates(rt: HostRuntime) -> Result<(), Fail> {
 #[test]
 fn the_example_is_a_plan(rt: HostRuntime) -> Result<(), Fail> {
     let want = (0, examples::PLAN_FILE_ANSWER);
-    says(&rt, rt.alloc(), &[examples::PLAN_FILE], want)
+    says(&rt, rt.alloc(), &[plans::PLAN_FILE], want)
 }

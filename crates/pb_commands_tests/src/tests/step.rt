@@ -59,7 +59,7 @@ const NOTHING: &str =
 fn says(rt: &impl Abort, alloc: Global, script: &str, answers: &str) -> Result<(), Fail> {
     let mut want = String::from_str(alloc, answers)?;
     want.push_str(NOTHING)?;
-    drives(rt, alloc, two_bridges::PLAN, script, want.as_str());
+    drives(rt, alloc, plans::TWO_BRIDGES, script, want.as_str());
     Ok(())
 }
 
@@ -67,11 +67,15 @@ fn says(rt: &impl Abort, alloc: Global, script: &str, answers: &str) -> Result<(
 fn the_examples_run(rt: HostRuntime) {
     let alloc = rt.alloc();
     for (plan, script, want) in [
-        (two_bridges::PLAN, two_bridges::STEPS, two_bridges::EXPECTED),
+        (
+            plans::TWO_BRIDGES,
+            two_bridges::STEPS,
+            two_bridges::EXPECTED,
+        ),
         (plans::METRO, metro::STEPS, metro::EXPECTED),
-        (e_line::PLAN, e_line::STEPS, e_line::EXPECTED),
-        (e_lan::PLAN, e_lan::STEPS, e_lan::EXPECTED),
-        (parallel::PLAN, parallel::STEPS, parallel::EXPECTED),
+        (plans::E_LINE, e_line::STEPS, e_line::EXPECTED),
+        (plans::E_LAN, e_lan::STEPS, e_lan::EXPECTED),
+        (plans::PARALLEL, parallel::STEPS, parallel::EXPECTED),
         (plans::LOSSES, losses::STEPS, losses::EXPECTED),
         (settling::PLAN, settling::STEPS, settling::EXPECTED),
         (plans::FAILOVER, failover::STEPS, failover::EXPECTED),
@@ -123,7 +127,7 @@ fn a_frame_with_no_other_port_of_its_service_is_relayed_to_none(
 ) -> Result<(), Fail> {
     let alloc = rt.alloc();
     // The link's end at B2 takes red alone, and customer port C3 is the only one of blue.
-    let Some((front, back)) = two_bridges::PLAN.split_once("b_port = 1\n") else {
+    let Some((front, back)) = plans::TWO_BRIDGES.split_once("b_port = 1\n") else {
         assert!(rt; false, "the plan has another link");
         return Ok(());
     };
@@ -144,7 +148,7 @@ fn a_frame_with_no_other_port_of_its_service_is_relayed_to_none(
 fn the_limit_of_steps_ends_a_run(rt: HostRuntime) -> Result<(), Fail> {
     let alloc = rt.alloc();
     let mut plan = String::from_str(alloc, "[network]\nsteps = 1\n")?;
-    plan.push_str(two_bridges::PLAN)?;
+    plan.push_str(plans::TWO_BRIDGES)?;
     let mut output = Vec::new(alloc);
     let mut reader = b"poll C1 00\npoll C1 00\nfeed C9\nfeed C1\nfeed C2\n".as_slice();
     let result = run_script(alloc, plan.as_bytes(), &mut reader, &mut output);
@@ -215,7 +219,7 @@ fn a_queue_counts_a_port_or_a_class(rt: HostRuntime) -> Result<(), Fail> {
 /// Returns the plan of the two bridges with the rapid spanning tree.
 fn tree(alloc: Global) -> Result<String, Fail> {
     let mut plan = String::from_str(alloc, "[network]\nspanning = \"rstp\"\n")?;
-    plan.push_str(two_bridges::PLAN)?;
+    plan.push_str(plans::TWO_BRIDGES)?;
     Ok(plan)
 }
 
@@ -270,7 +274,7 @@ fn a_failed_read_ends_a_run(rt: HostRuntime) {
     };
     let result = run_script(
         alloc,
-        two_bridges::PLAN.as_bytes(),
+        plans::TWO_BRIDGES.as_bytes(),
         &mut reader,
         &mut output,
     );
@@ -281,7 +285,7 @@ fn a_failed_read_ends_a_run(rt: HostRuntime) {
 #[test]
 fn a_failed_write_ends_a_run(rt: HostRuntime) {
     let alloc = rt.alloc();
-    let plan = two_bridges::PLAN.as_bytes();
+    let plan = plans::TWO_BRIDGES.as_bytes();
     for room in [0usize, 3, 5, 100] {
         let mut reader = b"feed C1\n".as_slice();
         let result = run_script(alloc, plan, &mut reader, &mut Full { room });

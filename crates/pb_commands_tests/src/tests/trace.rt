@@ -62,7 +62,7 @@ fn traced<W: Write>(
     ensures ok { IfOk result (λ end. HasTold file.now asked.now end (W.contents writer.old)
         (W.contents writer.new)) }
     ensures kinds { IfErr result (λ e. e ≢ CommandFault.Read) }
-    ensures steps { IfErr result (λ e. e ≡ CommandFault.Steps → RunsIntoLimit file.now) }
+    ensures steps { IfErr result (λ e. e ≡ CommandFault.Steps → RunsIntoLimit file.now asked.now) }
     ensures none { IfErr result (λ e. e ≢ CommandFault.Write → Keeps (W.contents writer.old) (W.contents writer.new)) }
 {
     run_trace(alloc, file, asked, writer)

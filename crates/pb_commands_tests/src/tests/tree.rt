@@ -156,7 +156,7 @@ fn grown<W: Write>(
     ensures ok { IfOk result (λ end.
         HasTold file.now downs.now ticks end (W.contents writer.old) (W.contents writer.new)) }
     ensures kinds { IfErr result (λ e. e ≢ CommandFault.Read) }
-    ensures steps { IfErr result (λ e. e ≡ CommandFault.Steps → RunsIntoLimit file.now) }
+    ensures steps { IfErr result (λ e. e ≡ CommandFault.Steps → RunsIntoLimit file.now downs.now ticks) }
     ensures none { IfErr result (λ e. e ≢ CommandFault.Write → Keeps (W.contents writer.old) (W.contents writer.new)) }
 {
     run_tree(alloc, file, downs, ticks, writer)

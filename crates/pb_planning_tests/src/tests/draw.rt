@@ -57,7 +57,7 @@ fn drawn<W: Write>(
     ensures ok { IfOk result (λ end. HasWritten file.now asked.now end (W.contents writer.old) (W.contents writer.new)
         ⊎ ((end ≡ DrawEnd.Refused) × PrintsRefusal file.now (W.contents writer.old) (W.contents writer.new))) }
     ensures kinds { IfErr result (λ e. e ≢ CommandFault.Read) }
-    ensures steps { IfErr result (λ e. e ≡ CommandFault.Steps → RunsIntoLimit file.now) }
+    ensures steps { IfErr result (λ e. e ≡ CommandFault.Steps → RunsIntoLimit file.now asked.now) }
     ensures none { IfErr result (λ e. e ≢ CommandFault.Write → Keeps (W.contents writer.old) (W.contents writer.new)) }
 {
     run_draw(alloc, file, asked, writer)

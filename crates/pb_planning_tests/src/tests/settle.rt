@@ -128,8 +128,8 @@ fn a_place_has_so_many_steps(rt: HostRuntime) -> Result<(), Fail> {
 /// Checks the ticks to convergence. The root's BPDUs cross a small ring within a tick. In a ring of 32 bridges better
 /// roots arrive one after the other, and a port sends at most six BPDUs in a tick; this takes more ticks.
 ///
-/// Then one end of a link falls. The far end gets no sign of it: what it heard has to age out. The last of 32 bridges is
-/// then too far from the root, since BPDUs pass at most 20 bridges.
+/// Then one end of a link falls. The far end gets no sign of it: what it heard has to age out. The last of 32 bridges
+/// is then too far from the root, since BPDUs pass at most 20 bridges.
 #[test]
 fn rings_settle(rt: HostRuntime) -> Result<(), Fail> {
     let again = Rest::Settled(7);

@@ -1,10 +1,11 @@
-use Rattle.std.proofs.Common.{[], string_bytes, refl, subst, sym, append-nil}
+use Rattle.std.proofs.Common.{◌+◌, [], string_bytes, arith, refl, subst, sym, append-nil}
 use Rattle.std.proofs.lemmas.Result.{err_from_is_err_and}
 use Rattle.pb_converge.proofs.DriveLemmas.{done-plan}
 use Rattle.pb_converge.proofs.FallLemmas.{fallen_from}
-use Rattle.pb_converge.proofs.LimitLemmas.{caused-broken, caused-later}
-use Rattle.pb_converge.specs.Drives.{HasBroken, IsCaused}
-use Rattle.pb_converge.specs.Falls.{fresh, downs}
+use Rattle.pb_converge.proofs.FewLemmas.{few-downs, few-lower}
+use Rattle.pb_converge.proofs.LimitLemmas.{caused-broken, caused-later, caused-lower}
+use Rattle.pb_converge.specs.Drives.{AreFew, HasBroken, IsCaused}
+use Rattle.pb_converge.specs.Falls.{down_count, downs, fresh}
 use Rattle.pb_cmd_draw.proofs.draw.put_fallen.Goals as goal
 
 pub put_rested-requires-clause-plan : goal.put_rested-requires-clause-plan
@@ -20,9 +21,15 @@ returns-in_err-fault-clause-err c =
     let plan = c.args.plan.now in
     let new = c.disables.new.net in
     let fault = c.in_err-fault.field-0.0 in
-    let b = subst (λ net. HasBroken fault net new) c.in_ok-net.ensures c.in_err-fault.ensures.err in
-    let caused = caused-broken 1000000000 fault (fresh plan) new c.in_err-fault.ensures.enough b in
-    rw p.1 (subst (λ e. IsCaused 1000000000 e (fresh plan)) (sym p.2) caused)
+    let names = c.args.asked.now.downs.now in
+    let due = downs plan names in
+    let ticks = c.args.asked.now.ticks in
+    let count = down_count plan names in
+    let b = subst (λ net. HasBroken due fault net new) c.in_ok-net.ensures c.in_err-fault.ensures.err in
+    let few : AreFew ticks 0 count due = few-lower due (omega arith) (omega arith) (omega arith)
+    (few-downs plan names) in
+    let caused = caused-broken 1000000000 due fault (fresh plan) new few c.in_err-fault.ensures.enough b in
+    rw p.1 (subst (λ e. IsCaused ticks 0 count 1000000000 e (fresh plan)) (sym p.2) caused)
 
 pub returns-in_err-rest-in-None-clause-err : goal.returns-in_err-rest-in-None-clause-err
 returns-in_err-rest-in-None-clause-err c =
@@ -33,9 +40,15 @@ returns-in_err-rest-in-None-clause-err c =
     let done = fallen_from plan c.args.asked.now.downs.now c.disables.new.net c.in_ok-net.ensures
     c.in_ok-fault.ensures.kept fallen in
     let fault = c.in_err-rest-in-None.field-0.0 in
-    let caused = caused-later 1000000000 fault (downs plan c.args.asked.now.downs.now) (fresh plan) c.disables.new.net
-    done c.in_err-rest-in-None.ensures.err in
-    rw p.1 (subst (λ e. IsCaused 1000000000 e (fresh plan)) (sym p.2) caused)
+    let names = c.args.asked.now.downs.now in
+    let ticks = c.args.asked.now.ticks in
+    let count = down_count plan names in
+    let later = caused-later ticks 0 0 1000000000 fault (downs plan names) (fresh plan) c.disables.new.net
+    (few-downs plan names) done c.in_err-rest-in-None.ensures.err in
+    let caused : IsCaused ticks 0 count 1000000000 fault (fresh plan) =
+    caused-lower (0 + ticks) 0 (count + 0) ticks 0 count 1000000000 1000000000 fault (fresh plan) (omega arith)
+    (omega arith) (omega arith) (omega arith) later in
+    rw p.1 (subst (λ e. IsCaused ticks 0 count 1000000000 e (fresh plan)) (sym p.2) caused)
 
 pub returns-in-Some-clause-ok : goal.returns-in-Some-clause-ok
 returns-in-Some-clause-ok c = (

@@ -13,9 +13,10 @@ pub returns-in_err-rest-clause-err : goal.returns-in_err-rest-clause-err
 returns-in_err-rest-clause-err c =
     let p = err_from_is_err_and c.from_residual.result c.from_residual.ensures.1 in
     let net = c.args.net in
-    let caused = caused-failed 1000000000 c.in_err-rest.field-0.0 net c.settle.new.net c.in_err-rest.ensures.enough
-    c.in_err-rest.ensures.err in
-    rw p.1 (subst (λ e. IsCaused 1000000000 e net) (sym p.2) caused)
+    let ticks = c.args.asked.now.ticks in
+    let caused = caused-failed ticks 1000000000 c.in_err-rest.field-0.0 net c.settle.new.net
+    c.in_err-rest.ensures.enough c.in_err-rest.ensures.err in
+    rw p.1 (subst (λ e. IsCaused ticks 0 0 1000000000 e net) (sym p.2) caused)
 
 pub returns-clause-ok : goal.returns-clause-ok
 returns-clause-ok c =

@@ -12,7 +12,8 @@ returns c =
     let new = string_bytes c.put_list_texts.new.out in
     let lines = c.line_count-lines.result in
     let all = list_plate half lines ++ list_texts plan link in
-    let both = last_piece c.put_list_texts.result old (string_bytes c.put_list_plate.new.out) new (list_plate half lines)
+    let both = last_piece c.put_list_texts.result old (string_bytes c.put_list_plate.new.out) new
+    (list_plate half lines)
     (list_texts plan link) c.in_ok-put_list_plate.ensures c.put_list_texts.ensures in
     let some : (if lines == 0 then [] else all) ≡ all =
     ap (λ b. if b then [] else all) (ne_eqb lines 0 c.if-lines-eq0.false) in

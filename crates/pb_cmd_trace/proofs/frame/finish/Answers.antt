@@ -6,5 +6,5 @@ returns-in-Err-clause-err c =
     let old = c.args.net.now in
     let new = c.drain.new.net in
     let fault = c.in-Err.fault in
-    caused-told 1000000 fault c.fault_in.result old new c.fault_in.ensures.fault c.fault_in.ensures.enough
+    caused-told 0 0 0 1000000 fault c.fault_in.result old new c.fault_in.ensures.fault c.fault_in.ensures.enough
     (λ enough. caused-stopped 1000000 fault old new (λ other. enough) c.in-Err.ensures.err)

@@ -22,5 +22,5 @@ returns-clause-err c =
     let mid = c.walk.new.net in
     let w = c.in_ok-course.ensures.ok in
     let run = walked-run c.args.plan.now (Feed c.args.port ∷ []) c.in_ok-course.course old mid w.0 w.2 in
-    IfErr-weaker c.conclude.result _ _ (λ fault h. caused-later 1000000 fault run.0 old mid run.1 h)
+    IfErr-weaker c.conclude.result _ _ (λ fault h. caused-later 0 0 0 1000000 fault run.0 old mid run.2 run.1 h)
     c.conclude.ensures.err

@@ -1,6 +1,7 @@
 use Rattle.std.proofs.Common.{◌∷◌, [], ◌∙◌}
 use Rattle.std.proofs.lemmas.Result.{IfErr-weaker, IfOk-weaker}
 use Rattle.pb_converge.proofs.DriveLemmas.{done-one}
+use Rattle.pb_converge.proofs.FewLemmas.{few-poll}
 use Rattle.pb_converge.proofs.LimitLemmas.{caused-full, caused-later, caused-told}
 use Rattle.pb_converge.specs.declared.fault.DriveFault.TheVariants.{Steps}
 use Rattle.pb_lan.specs.declared.event.Event.TheVariants.{Poll}
@@ -35,7 +36,8 @@ returns-in-Ok-Done-clause-err c =
     let event = Poll c.args.port c.args.frame in
     let h = rw c.in-Ok-Done.field-0-is at c.in-Ok-Done.ensures in
     let done = done-one old new event c.in-Ok-Done.field-0-0 h in
-    IfErr-weaker c.follow.result _ _ (λ fault k. caused-later 1000000 fault (event ∷ []) old new done k)
+    let few = few-poll c.args.port c.args.frame in
+    IfErr-weaker c.follow.result _ _ (λ fault k. caused-later 0 0 0 1000000 fault (event ∷ []) old new few done k)
     c.follow.ensures.err
 
 pub returns-in-Err-StepLimit-clause-err : goal.returns-in-Err-StepLimit-clause-err
@@ -43,8 +45,8 @@ returns-in-Err-StepLimit-clause-err c =
     let old = c.args.net.now in
     let new = c.step.new.self in
     let h = rw c.in-Err-StepLimit.field-0-is at c.in-Err-StepLimit.ensures in
-    caused-told 1000000 Steps c.fault_in.result old new c.fault_in.ensures.fault c.fault_in.ensures.enough
-    (caused-full 1000000 (Poll c.args.port c.args.frame) old new h)
+    caused-told 0 1 0 1000000 Steps c.fault_in.result old new c.fault_in.ensures.fault c.fault_in.ensures.enough
+    (caused-full 0 1 0 1000000 (Poll c.args.port c.args.frame) old new h)
 
 pub follow-requires-clause-kept : goal.follow-requires-clause-kept
 follow-requires-clause-kept c =

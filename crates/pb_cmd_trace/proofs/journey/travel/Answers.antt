@@ -1,6 +1,7 @@
-use Rattle.std.proofs.Common.{◌++◌, take, ap, subst, sym, ◌∙◌, append_assoc}
+use Rattle.std.proofs.Common.{◌≤◌, ◌+◌, ◌++◌, arith, length, take, ap, subst, sym, ◌∙◌, append_assoc}
+use Rattle.std.proofs.lemmas.List.{length-take-le}
 use Rattle.std.proofs.lemmas.Result.{err_from_is_err_and}
-use Rattle.pb_converge.proofs.LimitLemmas.{caused-later}
+use Rattle.pb_converge.proofs.LimitLemmas.{caused-later, caused-lower}
 use Rattle.pb_converge.specs.Drives.{IsCaused}
 use Rattle.pb_frame.proofs.Things.{here_is}
 use Rattle.pb_names.specs.Numbers.{port_named}
@@ -72,9 +73,16 @@ returns-in_err-trace_entry-clause-err c =
     let mid = c.loop-index.net in
     let before = c.loop-index.invariant.told in
     let run = stories-run c.args.plan.now (take c.loop-index.index c.args.entries.now) old mid before.0 before.2 in
-    let caused = caused-later 1000000 c.in_err-trace_entry.field-0.0 run.0 old mid run.1
-    c.in_err-trace_entry.ensures.err in
-    rw p.1 (subst (λ e. IsCaused 1000000 e old) (sym p.2) caused)
+    let fault = c.in_err-trace_entry.field-0.0 in
+    let polls = length c.args.entries.now in
+    let later = caused-later 0 1 0 1000000 fault run.0 old mid run.2 run.1 c.in_err-trace_entry.ensures.err in
+    let first = length (take c.loop-index.index c.args.entries.now) in
+    let number = length-take-le c.loop-index.index c.args.entries.now (omega (arith, c.loop-index-test.true)) in
+    let fits : first + 1 ≤ polls = omega (arith, number, c.loop-index-test.true) in
+    let caused : IsCaused 0 polls 0 1000000 fault old =
+    caused-lower 0 (first + 1) 0 0 polls 0 1000000 1000000 fault old (omega arith) fits (omega arith) (omega arith)
+    later in
+    rw p.1 (subst (λ e. IsCaused 0 polls 0 1000000 e old) (sym p.2) caused)
 
 pub trace_entry-requires-clause-kept : goal.trace_entry-requires-clause-kept
 trace_entry-requires-clause-kept c =

@@ -1,12 +1,12 @@
-use Rattle.std.proofs.Common.{◌++◌, ap, subst, sym, ◌∙◌}
+use Rattle.std.proofs.Common.{◌+◌, ◌++◌, arith, length, unwrap_or, ap, subst, sym, ◌∙◌}
 use Rattle.std.proofs.lemmas.Result.{err_from_is_err_and}
 use Rattle.pb_converge.proofs.DriveLemmas.{done-kept}
-use Rattle.pb_converge.proofs.LimitLemmas.{caused-later}
+use Rattle.pb_converge.proofs.LimitLemmas.{caused-later, caused-lower}
 use Rattle.pb_converge.specs.Drives.{IsCaused}
 use Rattle.pb_converge.specs.Enough.{HasEnoughMemory}
 use Rattle.pb_lan.specs.Records.{IsLawfulRecord}
 use Rattle.pb_relay.specs.Protocol.{spanning_tree}
-use Rattle.pb_cmd_trace.proofs.DoneLemmas.{begun-run, journey-run}
+use Rattle.pb_cmd_trace.proofs.DoneLemmas.{begun-run, journey-done}
 use Rattle.pb_cmd_trace.proofs.StartLemmas.{start_lawful}
 use Rattle.pb_cmd_trace.specs.Stories.{HasJourneyed}
 use Rattle.pb_cmd_trace.specs.declared.journey.Journey.TheVariants.{Told}
@@ -43,8 +43,14 @@ returns-in_err-round-clause-err c =
     let old = c.args.net in
     let mid = c.begin.new.net in
     let run = begun-run c.args.asked.now.settle old mid c.in_ok-rest.rest c.in_ok-rest.ensures.ok in
-    let caused = caused-later 1000000 c.in_err-round.field-0.0 run.0 old mid run.1 c.in_err-round.ensures.err in
-    rw p.1 (subst (λ e. IsCaused 1000000 e old) (sym p.2) caused)
+    let fault = c.in_err-round.field-0.0 in
+    let ticks = unwrap_or c.args.asked.now.settle 0 in
+    let polls = length c.args.asked.now.entries.now in
+    let later = caused-later 0 polls 0 1000000 fault run.0 old mid run.2 run.1 c.in_err-round.ensures.err in
+    let caused : IsCaused ticks polls 0 1000000 fault old =
+    caused-lower (ticks + 0) (0 + polls) 0 ticks polls 0 1000000 1000000 fault old (omega arith) (omega arith)
+    (omega arith) (omega arith) later in
+    rw p.1 (subst (λ e. IsCaused ticks polls 0 1000000 e old) (sym p.2) caused)
 
 pub steps_are_lawful-requires : goal.steps_are_lawful-requires
 steps_are_lawful-requires c =
@@ -61,7 +67,7 @@ record_of-requires c =
     let t = rw c.in-Told.is at c.in_ok-round.ensures.ok in
     let first = begun-run c.args.asked.now.settle c.args.net c.begin.new.net c.in_ok-rest.rest
     c.in_ok-rest.ensures.ok in
-    let run = journey-run c.args.plan.now c.args.asked.now.entries.now c.in-Told.round c.begin.new.net c.travel.new.net
+    let run = journey-done c.args.plan.now c.args.asked.now.entries.now c.in-Told.round c.begin.new.net c.travel.new.net
     t.0 t.2 in
     done-kept c.begin.new.net c.travel.new.net run.0 run.1 ∙ done-kept c.args.net c.begin.new.net first.0 first.1
     ∙ c.requires.kept

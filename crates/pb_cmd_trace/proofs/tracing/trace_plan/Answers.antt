@@ -1,11 +1,13 @@
-use Rattle.std.proofs.Common.{true, subst, sym, ap, ◌∙◌}
+use Rattle.std.proofs.Common.{◌+◌, true, arith, length, unwrap_or, subst, sym, ap, ◌∙◌}
 use Rattle.std.proofs.lemmas.Result.{err_from_is_err_and, IfErr-weaker, IfOk-weaker}
 use Rattle.pb_converge.proofs.DriveLemmas.{done-plan}
 use Rattle.pb_converge.proofs.FallLemmas.{fallen_from}
-use Rattle.pb_converge.proofs.LimitLemmas.{caused-broken, caused-later}
-use Rattle.pb_converge.specs.Drives.{HasBroken, IsCaused}
-use Rattle.pb_converge.specs.Falls.{fresh_by, downs}
+use Rattle.pb_converge.proofs.FewLemmas.{few-downs, few-lower}
+use Rattle.pb_converge.proofs.LimitLemmas.{caused-broken, caused-later, caused-lower}
+use Rattle.pb_converge.specs.Drives.{AreFew, HasBroken}
+use Rattle.pb_converge.specs.Falls.{down_count, downs, fresh_by}
 use Rattle.pb_cmd_trace.proofs.StoryLemmas.{fallen_trace}
+use Rattle.pb_cmd_trace.specs.Tracings.{IsTracingFault}
 use Rattle.pb_cmd_trace.proofs.tracing.trace_plan.Goals as goal
 
 pub follow_all-requires-clause-plan : goal.follow_all-requires-clause-plan
@@ -30,9 +32,15 @@ returns-in_err-fault-clause-err c =
     let plan = c.args.plan.now in
     let new = c.disables.new.net in
     let fault = c.in_err-fault.field-0.0 in
-    let b = subst (λ net. HasBroken fault net new) c.in_ok-net.ensures c.in_err-fault.ensures.err in
-    let caused = caused-broken 1000000 fault (fresh_by true plan) new c.in_err-fault.ensures.enough b in
-    rw p.1 (subst (λ e. IsCaused 1000000 e (fresh_by true plan)) (sym p.2) caused)
+    let asked = c.args.asked.now in
+    let due = downs plan asked.downs.now in
+    let ticks = unwrap_or asked.settle 0 in
+    let polls = length asked.entries.now in
+    let b = subst (λ net. HasBroken due fault net new) c.in_ok-net.ensures c.in_err-fault.ensures.err in
+    let few : AreFew ticks polls (down_count plan asked.downs.now) due =
+    few-lower due (omega arith) (omega arith) (omega arith) (few-downs plan asked.downs.now) in
+    let caused = caused-broken 1000000 due fault (fresh_by true plan) new few c.in_err-fault.ensures.enough b in
+    rw p.1 (subst (IsTracingFault plan asked) (sym p.2) caused)
 
 pub returns-in-None-clause-err : goal.returns-in-None-clause-err
 returns-in-None-clause-err c =
@@ -40,10 +48,18 @@ returns-in-None-clause-err c =
     let fallen = rw c.in-None.is at c.in_ok-fault.ensures.falls in
     let done = fallen_from plan c.args.asked.now.downs.now c.disables.new.net c.in_ok-net.ensures
     c.in_ok-fault.ensures.kept fallen in
-    IfErr-weaker c.follow_all.result _ _
-    (λ fault h. caused-later 1000000 fault (downs plan c.args.asked.now.downs.now) (fresh_by true plan)
-    c.disables.new.net
-    done h) c.follow_all.ensures.err
+    let asked = c.args.asked.now in
+    let names = asked.downs.now in
+    let start = fresh_by true plan in
+    let ticks = unwrap_or asked.settle 0 in
+    let polls = length asked.entries.now in
+    let count = down_count plan names in
+    IfErr-weaker c.follow_all.result _ (IsTracingFault plan asked)
+    (λ fault h. caused-lower (0 + ticks) (0 + polls) (count + 0) ticks polls count 1000000 1000000 fault start
+    (omega arith) (omega arith) (omega arith) (omega arith)
+    (caused-later ticks polls 0 1000000 fault (downs plan names) start c.disables.new.net (few-downs plan names) done
+    h))
+    c.follow_all.ensures.err
 
 pub follow_all-requires-clause-kept : goal.follow_all-requires-clause-kept
 follow_all-requires-clause-kept c = c.in_ok-fault.ensures.kept ∙ ap (λ n. n.is_kept) c.in_ok-net.ensures

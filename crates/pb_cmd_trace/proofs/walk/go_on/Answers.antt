@@ -15,8 +15,8 @@ returns-in-Err-StepLimit-clause-err c =
     let old = c.args.net.now in
     let new = c.step.new.self in
     let h = rw c.in-Err-StepLimit.field-0-is at c.in-Err-StepLimit.ensures in
-    caused-told 1000000 Steps c.fault_in.result old new c.fault_in.ensures.fault c.fault_in.ensures.enough
-    (caused-full 1000000 c.event_of.result old new h)
+    caused-told 0 0 0 1000000 Steps c.fault_in.result old new c.fault_in.ensures.fault c.fault_in.ensures.enough
+    (caused-full 0 0 0 1000000 c.event_of.result old new h)
 
 pub newest-requires-clause-kept : goal.newest-requires-clause-kept
 newest-requires-clause-kept c =

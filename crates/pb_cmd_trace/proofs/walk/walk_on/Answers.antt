@@ -40,8 +40,9 @@ returns-in_err-go_on-clause-err c =
     let before = c.loop.invariant.walked in
     let run = walks-run c.loop.counter c.args.plan.now c.args.todo.now.items old c.loop.todo.items c.loop.net before.0
     before.2 in
-    let caused = caused-later 1000000 c.in_err-go_on.field-0.0 run.0 old c.loop.net run.1 c.in_err-go_on.ensures.err in
-    rw p.1 (subst (λ e. IsCaused 1000000 e old) (sym p.2) caused)
+    let caused : IsCaused 0 0 0 1000000 c.in_err-go_on.field-0.0 old =
+    caused-later 0 0 0 1000000 c.in_err-go_on.field-0.0 run.0 old c.loop.net run.2 run.1 c.in_err-go_on.ensures.err in
+    rw p.1 (subst (λ e. IsCaused 0 0 0 1000000 e old) (sym p.2) caused)
 
 pub go_on-requires-clause-kept : goal.go_on-requires-clause-kept
 go_on-requires-clause-kept c =

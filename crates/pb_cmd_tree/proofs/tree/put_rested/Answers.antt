@@ -16,9 +16,9 @@ pub returns-in_err-rest-clause-err : goal.returns-in_err-rest-clause-err
 returns-in_err-rest-clause-err c =
     let p = err_from_is_err_and c.from_residual.result c.from_residual.ensures.1 in
     let net = c.args.net in
-    let caused = caused-failed 1000000000 c.in_err-rest.field-0.0 net c.settle.new.net c.in_err-rest.ensures.enough
-    c.in_err-rest.ensures.err in
-    rw p.1 (subst (λ e. IsCaused 1000000000 e net) (sym p.2) caused)
+    let caused = caused-failed c.args.ticks 1000000000 c.in_err-rest.field-0.0 net c.settle.new.net
+    c.in_err-rest.ensures.enough c.in_err-rest.ensures.err in
+    rw p.1 (subst (λ e. IsCaused c.args.ticks 0 0 1000000000 e net) (sym p.2) caused)
 
 pub returns-in_ok-put_planned-in-Fixed-clause-ok : goal.returns-in_ok-put_planned-in-Fixed-clause-ok
 returns-in_ok-put_planned-in-Fixed-clause-ok c =

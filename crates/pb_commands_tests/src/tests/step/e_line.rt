@@ -1,41 +1,4 @@
-//! The example `e-line`, as in its three files.
-
-/// The plan file.
-pub(super) const PLAN: &str =
-    r#"# An E-Line: two sites of a customer, joined as by a wire. What one sends the other gets octet for octet,
-# the customer's own BPDUs and tags too; an address that bridges keep to themselves is filtered.
-
-[[bridge]]
-name = "West"
-address = "02-00-00-00-00-01"
-
-[[bridge]]
-name = "East"
-address = "02-00-00-00-00-02"
-
-[[link]]
-name = "trunk"
-a = "West"
-a_port = 1
-b = "East"
-b_port = 1
-
-[[service]]
-name = "line"
-vid = 1000
-
-[[port]]
-name = "plant"
-bridge = "West"
-port = 2
-service = "line"
-
-[[port]]
-name = "warehouse"
-bridge = "East"
-port = 2
-service = "line"
-"#;
+//! The script of the example `e-line`, and the output.
 
 /// The script.
 pub(super) const STEPS: &str = r#"poll plant 0180c2000000020000000101000742420300000080

@@ -1,7 +1,7 @@
 //! Step scripts that are tests.
 
-use super::two_bridges;
 use pb_cmd_step::{TestNotes, run_test};
+use pb_fakes::plans::TWO_BRIDGES;
 use pb_messages::CommandFault;
 use std::alloc::Global;
 use std::process::Abort;
@@ -19,7 +19,7 @@ fn ends(
     let mut output = Vec::new(alloc);
     let mut notes = TestNotes::new(alloc);
     let mut reader = script.as_bytes();
-    let plan = two_bridges::PLAN.as_bytes();
+    let plan = TWO_BRIDGES.as_bytes();
     let result = run_test(alloc, plan, &mut reader, &mut output, &mut notes);
     assert_eq!(rt; result, Ok(status));
     assert!(rt; output.as_slice().starts_with(want.as_bytes()));
@@ -113,7 +113,7 @@ fn a_file_that_is_no_plan_has_no_findings(rt: HostRuntime) {
 fn a_fault_keeps_the_findings(rt: HostRuntime) -> Result<(), Fail> {
     let alloc = rt.alloc();
     let mut plan = String::from_str(alloc, "[network]\nsteps = 1\n")?;
-    plan.push_str(two_bridges::PLAN)?;
+    plan.push_str(TWO_BRIDGES)?;
     let mut output = Vec::new(alloc);
     let mut notes = TestNotes::new(alloc);
     let mut reader = b"poll C1 00\nexpect fed\nfeed C1\n".as_slice();

@@ -26,7 +26,7 @@ fn pictured<W: Write>(
     ensures ok { IfOk result (λ end. HasShown file.now asked.now end (W.contents writer.old)
         (W.contents writer.new)) }
     ensures kinds { IfErr result (λ e. e ≢ CommandFault.Read) }
-    ensures steps { IfErr result (λ e. e ≡ CommandFault.Steps → RunsIntoLimit file.now) }
+    ensures steps { IfErr result (λ e. e ≡ CommandFault.Steps → RunsIntoLimit file.now asked.now) }
     ensures none { IfErr result (λ e. e ≢ CommandFault.Write → Keeps (W.contents writer.old) (W.contents writer.new)) }
 {
     run_trace_svg(alloc, file, asked, writer)

@@ -1,9 +1,10 @@
-use Rattle.std.proofs.Common.{◌≡◌, map, take, subst, sym, ◌∙◌}
+use Rattle.std.proofs.Common.{◌≡◌, map, subst, sym, ◌∙◌}
 use Rattle.std.proofs.lemmas.Result.{err_from_is_err_and}
 use Rattle.pb_converge.proofs.DriveLemmas.{done-kept}
-use Rattle.pb_converge.proofs.FallLemmas.{broken-later, refused_at, fallen_more}
+use Rattle.pb_converge.proofs.FallLemmas.{name_broken, names_broken, refused_at, fallen_more}
 use Rattle.pb_converge.specs.Drives.{HasBroken, HaveDone}
 use Rattle.pb_converge.specs.Falls.{IsClear, all_down, downs, fresh_by, set_down}
+use Rattle.pb_converge.specs.declared.fault.DriveFault.TheVariants.{Memory}
 use Rattle.pb_converge.proofs.falling.fall_all.Goals as goal
 
 pub returns-in-Some-clause-falls : goal.returns-in-Some-clause-falls
@@ -11,6 +12,17 @@ returns-in-Some-clause-falls c =
     refused_at c.args.plan.now c.args.names.now c.loop-index.index c.index-names-index.result c.as_str.result.now
     c.in-Some.fault c.loop-index-test.true c.index-names-index.is c.as_str.ensures.value
     (rw c.in-Some.is at c.in_ok-fault.ensures)
+
+pub returns-in_err-fault-clause-falls : goal.returns-in_err-fault-clause-falls
+returns-in_err-fault-clause-falls c =
+    let p = err_from_is_err_and c.from_residual.result c.from_residual.ensures.1 in
+    let plan = c.args.plan.now in
+    let names = c.args.names.now in
+    let mid = c.loop-index.net in
+    let start = subst (λ k. c.args.net.now ≡ fresh_by k plan) (sym c.loop-index.invariant.2) c.requires.fresh in
+    let b = names_broken plan names c.loop-index.index (fresh_by mid.is_kept plan) mid c.loop-index.invariant.1.done in
+    let same = subst (λ net. HasBroken (downs plan names) Memory net mid) (sym start) b in
+    rw p.1 (subst (λ e. HasBroken (downs plan names) e c.args.net.now mid) (sym p.2) same)
 
 pub loop-index-preserved : goal.loop-index-preserved
 loop-index-preserved c =
@@ -35,8 +47,9 @@ returns-in_err-fall_named-in-None-clause-falls c =
     let fault = c.in_err-fall_named-in-None.field-0.0 in
     let mid = c.loop-index.net in
     let start = subst (λ k. c.args.net.now ≡ fresh_by k plan) (sym c.loop-index.invariant.2) c.requires.fresh in
-    let b = broken-later fault (downs plan (take c.loop-index.index c.args.names.now)) (fresh_by mid.is_kept plan) mid
-    new
-    c.loop-index.invariant.1.done c.in_err-fall_named-in-None.ensures.err in
-    let same = subst (λ net. HasBroken fault net new) (sym start) b in
-    rw p.1 (subst (λ e. HasBroken e c.args.net.now new) (sym p.2) same)
+    let one = subst (λ t. HasBroken (map set_down (all_down plan t)) fault mid new) c.as_str-in-None.ensures.value
+    c.in_err-fall_named-in-None.ensures.err in
+    let b = name_broken plan c.args.names.now c.loop-index.index c.index-names-index.result fault
+    (fresh_by mid.is_kept plan) mid new c.loop-index-test.true c.index-names-index.is c.loop-index.invariant.1.done one in
+    let same = subst (λ net. HasBroken (downs plan c.args.names.now) fault net new) (sym start) b in
+    rw p.1 (subst (λ e. HasBroken (downs plan c.args.names.now) e c.args.net.now new) (sym p.2) same)

@@ -1,8 +1,8 @@
-use Rattle.std.proofs.Common.{flat_map, inl, inr, map, refl, subst, sym, take}
+use Rattle.std.proofs.Common.{inl, inr, map, refl, subst, sym}
 use Rattle.std.proofs.lemmas.Result.{err_from_is_err_and}
-use Rattle.pb_converge.proofs.FallLemmas.{broken-later, provider_at, link_more}
+use Rattle.pb_converge.proofs.FallLemmas.{link_broken, provider_at, link_more}
 use Rattle.pb_converge.specs.Drives.{HasBroken}
-use Rattle.pb_converge.specs.Falls.{ends_down, set_down}
+use Rattle.pb_converge.specs.Falls.{all_down, set_down}
 use Rattle.pb_converge.proofs.falling.fall_named.Goals as goal
 
 pub fall_link-requires-clause-a : goal.fall_link-requires-clause-a
@@ -30,8 +30,9 @@ returns-in_err-fall_link-clause-err c =
     let p = err_from_is_err_and c.from_residual.result c.from_residual.ensures.1 in
     let old = c.args.net.now in
     let new = c.fall_link.new.net in
-    let ends = ends_down c.args.plan.now c.args.name.now in
-    let before = map set_down (flat_map ends (take c.loop-link.link-index c.args.plan.now.links)) in
-    let b = broken-later c.in_err-fall_link.field-0.0 before old c.loop-link.net new c.loop-link.invariant.1
-    c.in_err-fall_link.ensures.err in
-    rw p.1 (subst (λ e. HasBroken e old new) (sym p.2) b)
+    let plan = c.args.plan.now in
+    let name = c.args.name.now in
+    let b = link_broken plan name c.as_slice-link-items.result.now c.loop-link.link-index c.link-item.result
+    c.in_err-fall_link.field-0.0 old c.loop-link.net new c.as_slice-link-items.ensures c.loop-link-test.true
+    c.link-item.is c.loop-link.invariant.1 c.in_err-fall_link.ensures.err in
+    rw p.1 (subst (λ e. HasBroken (map set_down (all_down plan name)) e old new) (sym p.2) b)

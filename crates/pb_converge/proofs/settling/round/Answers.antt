@@ -10,7 +10,7 @@ returns-in_err-tick_all-clause-err c =
     let new = c.tick_all.new.net in
     let f = failed-ticks c.args.left c.in_err-tick_all.field-0.0 c.args.net.now new c.in_err-tick_all.ensures.err
     c.in_err-tick_all.ensures.refusal in
-    rw p.1 (subst (λ e. HasFailed c.args.left e c.args.net.now new) (sym p.2) f)
+    rw p.1 (subst (λ e. HasFailed 1 c.args.left e c.args.net.now new) (sym p.2) f)
 
 pub returns-clause-err : goal.returns-clause-err
 returns-clause-err c = IfErr-weaker c.drain.result _ _

@@ -10,26 +10,26 @@ use Rattle.pb_converge.proofs.settling.rounds.Goals as goal
 pub returns-in_err-watch-clause-err : goal.returns-in_err-watch-clause-err
 returns-in_err-watch-clause-err c =
     let p = err_from_is_err_and c.from_residual.result c.from_residual.ensures.1 in
-    rw p.1 (subst (λ e. HasFailed c.args.events e c.args.net.now c.args.net.now) (sym p.2)
-    (failed-first c.args.events c.args.net.now))
+    rw p.1 (subst (λ e. HasFailed c.args.most c.args.events e c.args.net.now c.args.net.now) (sym p.2)
+    (failed-first c.args.most c.args.events c.args.net.now))
 
 pub returns-in_err-done-clause-err : goal.returns-in_err-done-clause-err
 returns-in_err-done-clause-err c =
     let p = err_from_is_err_and c.from_residual-in_err-done.result c.from_residual-in_err-done.ensures.1 in
     let before = c.loop-ticks.invariant in
     let new = c.round.new.net in
-    let f = failed-later c.loop-ticks.ticks c.args.events c.loop-ticks.done c.in_err-done.field-0.0 c.args.net.now
-    c.loop-ticks.net new before.rounds before.within c.in_err-done.ensures.err in
-    rw p.1 (subst (λ e. HasFailed c.args.events e c.args.net.now new) (sym p.2) f)
+    let f = failed-later c.loop-ticks.ticks c.args.most c.args.events c.loop-ticks.done c.in_err-done.field-0.0 c.args.net.now
+    c.loop-ticks.net new (omega (arith, c.loop-ticks-test.true)) before.rounds before.within c.in_err-done.ensures.err in
+    rw p.1 (subst (λ e. HasFailed c.args.most c.args.events e c.args.net.now new) (sym p.2) f)
 
 pub returns-in_err-is_settled-clause-err : goal.returns-in_err-is_settled-clause-err
 returns-in_err-is_settled-clause-err c =
     let p = err_from_is_err_and c.from_residual-in_err-is_settled.result c.from_residual-in_err-is_settled.ensures.1 in
     let before = c.loop-ticks.invariant in
     let new = c.round.new.net in
-    let f = failed-look c.loop-ticks.ticks c.args.events c.loop-ticks.done c.in_ok-done.field-0 c.args.net.now
-    c.loop-ticks.net new before.rounds c.in_ok-done.ensures.ok in
-    rw p.1 (subst (λ e. HasFailed c.args.events e c.args.net.now new) (sym (p.2 ∙ c.in_err-is_settled.ensures.err)) f)
+    let f = failed-look c.loop-ticks.ticks c.args.most c.args.events c.loop-ticks.done c.in_ok-done.field-0 c.args.net.now
+    c.loop-ticks.net new (omega (arith, c.loop-ticks-test.true)) before.rounds c.in_ok-done.ensures.ok in
+    rw p.1 (subst (λ e. HasFailed c.args.most c.args.events e c.args.net.now new) (sym (p.2 ∙ c.in_err-is_settled.ensures.err)) f)
 
 pub returns-then-is_settled-clause-ok : goal.returns-then-is_settled-clause-ok
 returns-then-is_settled-clause-ok c =
@@ -56,9 +56,9 @@ pub returns-in_err-note-clause-err : goal.returns-in_err-note-clause-err
 returns-in_err-note-clause-err c =
     let p = err_from_is_err_and c.from_residual-in_err-note.result c.from_residual-in_err-note.ensures.1 in
     let new = c.round.new.net in
-    let f = failed-look c.loop-ticks.ticks c.args.events c.loop-ticks.done c.in_ok-done.field-0 c.args.net.now
-    c.loop-ticks.net new c.loop-ticks.invariant.rounds c.in_ok-done.ensures.ok in
-    rw p.1 (subst (λ e. HasFailed c.args.events e c.args.net.now new) (sym (p.2 ∙ c.in_err-note.ensures.err)) f)
+    let f = failed-look c.loop-ticks.ticks c.args.most c.args.events c.loop-ticks.done c.in_ok-done.field-0 c.args.net.now
+    c.loop-ticks.net new (omega (arith, c.loop-ticks-test.true)) c.loop-ticks.invariant.rounds c.in_ok-done.ensures.ok in
+    rw p.1 (subst (λ e. HasFailed c.args.most c.args.events e c.args.net.now new) (sym (p.2 ∙ c.in_err-note.ensures.err)) f)
 
 pub returns-then-ticks-watch-clause-ok : goal.returns-then-ticks-watch-clause-ok
 returns-then-ticks-watch-clause-ok c =

@@ -1,4 +1,4 @@
-use Rattle.std.proofs.Common.{◌≡◌, length, arith, ap, sym, ◌∙◌}
+use Rattle.std.proofs.Common.{◌≡◌, length, arith, ap, refl, sym, ◌∙◌}
 use Rattle.std.proofs.lemmas.Result.{err_from_is_err_and}
 use Rattle.pb_converge.proofs.DriveLemmas.{driven-append, driven-none}
 use Rattle.pb_converge.proofs.TickLemmas.{ticked-none, ticked-more, bridge_is, driven-ticks, has_ticked}
@@ -17,9 +17,9 @@ pub returns-in_err-tick-clause-err : goal.returns-in_err-tick-clause-err
 returns-in_err-tick-clause-err c =
     let p = err_from_is_err_and c.from_residual.result c.from_residual.ensures.1 in
     let before = c.loop-place.invariant in
-    rw p.1 (driven-append c.args.net.now c.loop-place.net c.tick.new.net
+    rw p.1 (driven-append 1 0 c.args.net.now c.loop-place.net c.tick.new.net (omega arith) refl
     (driven-ticks c.loop-place.place c.args.net.now c.loop-place.net before.done)
-    (driven-none c.loop-place.net c.tick.new.net c.in_err-tick.ensures.err))
+    (driven-none 0 c.loop-place.net c.tick.new.net c.in_err-tick.ensures.err))
 
 pub loop-place-preserved : goal.loop-place-preserved
 loop-place-preserved c =
