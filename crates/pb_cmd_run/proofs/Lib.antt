@@ -5,3 +5,4 @@ pub mod TellingLemmas
 pub mod TapLemmas
 pub mod PipeLemmas
 pub mod UnsentLemmas
+pub mod CarriedLemmas

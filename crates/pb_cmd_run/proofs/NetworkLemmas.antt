@@ -1,6 +1,6 @@
 -- Plans in files, and their ports (used by the functions of `network.rt`).
-use Rattle.std.proofs.Common.{◌≡◌, ◌&&◌, ℕ, zero, suc, Bool, refl, List, [], ◌∷◌, ◌++◌, length, map, ap, sym, subst, ◌∙◌}
-use Rattle.std.proofs.Common.{append-nil, arith, Ok, Err, IfOk}
+use Rattle.std.proofs.Common.{◌≡◌, ◌&&◌, ℕ, zero, suc, Bool, refl, List, [], ◌∷◌, length, map, ap, sym, subst, ◌∙◌}
+use Rattle.std.proofs.Common.{◌⊎◌, inl, inr, Ok, Err, IfErr}
 use Rattle.std.proofs.lemmas.Slice.Zip.{AllZip-long}
 use Rattle.std.specs.declared.result.Result.{Result}
 use Rattle.pb_lan.specs.Counts.{entered}
@@ -14,6 +14,8 @@ use Rattle.pb_service.specs.PlanFiles.{Tells, IsPlanOf}
 use Rattle.pb_service.specs.declared.port_spec.PortSpec.{PortSpec}
 use Rattle.pb_run.specs.declared.ended.Ended.{Ended}
 use Rattle.pb_cmd_run.specs.Scripted.{AreScripted}
+use Rattle.pb_cmd_run.specs.declared.network_fault.NetworkFault.{NetworkFault}
+use Rattle.pb_cmd_run.specs.declared.network_fault.NetworkFault.TheVariants.{Write, Memory, Ports}
 use Rattle.pb_run_ports.specs.Opened.{script_in}
 use Rattle.pb_run_losses.specs.Strict.{exit_status, is_whole}
 use Rattle.pb_run_losses.specs.declared.strictness.Strictness.{Strictness}
@@ -33,10 +35,12 @@ exits Strict ended lost text files told whole status s w l = s
     ∙ ap (λ x. exit_status Strict x told) (w ∙ ap (λ text. is_whole ended text && files) (l refl))
 exits Lenient ended lost text files told whole status s w l = s
 
--- a fact of an Ok value gives another
-pub on_value : {A E : Type 0} {P Q : A → Type 0} (r : Result A E) → ((x : A) → P x → Q x) → IfOk r P → IfOk r Q
-on_value (Ok x) f p = f x p
-on_value (Err e) f p = p
+-- a fault of one of these kinds is not of a third
+pub not_ports : {A : Type 0} (r : Result A NetworkFault) → IfErr r (λ e. (e ≡ Write) ⊎ (e ≡ Memory))
+    → IfErr r (λ e. e ≡ Ports → ⊥)
+not_ports (Ok x) is = is
+not_ports (Err e) (inl written) = λ ports. cc
+not_ports (Err e) (inr lacked) = λ ports. cc
 
 scripts_there : (ports : List PortFrames) (number : ℕ)
     → frames_of (map (λ p. p.script) ports) number ≡ (port_of ports number).script
@@ -57,9 +61,3 @@ are_scripted specs before after customers lasts same kept = record {
   used_up = λ number. subst (IsEnded (last_of lasts number)) (sym (scripts_there after number))
       (kept.kept number).used_up;
 }
-
--- all things have moved if none remains, and what is compared of them is the same
-pub all_moved : {X Y Z : Type 0} (f : X → Z) (xs : List X) (g : Y → Z) (left all ys : List Y)
-    → map f xs ++ map g left ≡ map g all → length left ≡ 0 → all ≡ ys → map f xs ≡ map g ys
-all_moved f xs g [] all ys before none same = sym (append-nil (map f xs)) ∙ before ∙ ap (map g) same
-all_moved f xs g (y ∷ left) all ys before none same = absurd (omega arith)

@@ -3,6 +3,7 @@ pub mod AnyPorts
 pub mod Scripted
 pub mod Faults
 pub mod Unsent
+pub mod Carried
 pub mod Networks
 pub mod Telling
 pub mod PortFaults

@@ -12,9 +12,9 @@ use Rattle.pb_port.specs.declared.memory.MemoryPort.{MemoryPort}
 use Rattle.pb_service.specs.declared.port_spec.PortSpec.{PortSpec}
 use Rattle.pb_run_ports.specs.Opened.{script_in}
 
--- the frames that a port in memory has not given yet
-abbrev pub script_at : {C S T U : Type 0} → AnyPort MemoryPort C S T U → Option (List (List ℕ))
-script_at {C} {S} {T} {U} = of_any (λ (port : MemoryPort). Some port.script.items) (λ (port : C). None) (λ (port : S). None)
+-- the frames that a port in memory has not given yet, or a port over files, if it has a script
+abbrev pub script_at : {F S T U : Type 0} → (F → Option (List (List ℕ))) → AnyPort MemoryPort F S T U → Option (List (List ℕ))
+script_at {F} {S} {T} {U} script = of_any (λ (port : MemoryPort). Some port.script.items) script (λ (port : S). None)
     (λ (port : T). None) (λ (port : U). None)
 
 -- at each port whose frames the file lists, the first of them entered, and all of them if the port came to its end

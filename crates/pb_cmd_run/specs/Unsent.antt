@@ -5,19 +5,20 @@ use Rattle.pb_lan.specs.Counts.{left}
 use Rattle.pb_lan.specs.Numbering.{numbered}
 use Rattle.pb_lan.specs.Records.{steps_of}
 use Rattle.pb_lan.specs.declared.step.Step.{Step}
-use Rattle.pb_port.specs.declared.capture.CapturePort.{CapturePort}
 use Rattle.pb_port.specs.declared.memory.MemoryPort.{MemoryPort}
 use Rattle.pb_port.specs.declared.socket.SocketPort.{SocketPort}
 use Rattle.pb_port.specs.declared.staying.StayingPort.{StayingPort}
-use Rattle.pb_workers.specs.Ports.{Frames, HasSent}
+use Rattle.pb_port.specs.Outputs.{IsWrittenTo}
+use Rattle.pb_run.specs.Runs.{port_of}
+use Rattle.pb_workers.specs.Ports.{Frames, PortFrames, HasSent}
 use Rattle.pb_cmd_run.specs.AnyPorts.{of_any}
 use Rattle.pb_cmd_run.specs.declared.any_port.AnyPort.{AnyPort}
 
--- the frames that wait in a port
-abbrev pub waiting_at : {R W S L D : Type 0}
-    → AnyPort MemoryPort (CapturePort R W) (SocketPort S) (StayingPort L) (DatagramPort D) → Frames
-waiting_at {R} {W} {S} {L} {D} = of_any (λ (port : MemoryPort). port.unsent.items)
-    (λ (port : CapturePort R W). port.sender.unsent.items) (λ (port : SocketPort S). port.sender.unsent.items)
+-- the frames that wait in a port, if a port over files has these
+abbrev pub waiting_at : {F S L D : Type 0} → (F → Frames)
+    → AnyPort MemoryPort F (SocketPort S) (StayingPort L) (DatagramPort D) → Frames
+waiting_at {F} {S} {L} {D} waiting = of_any (λ (port : MemoryPort). port.unsent.items)
+    waiting (λ (port : SocketPort S). port.sender.unsent.items)
     (λ (port : StayingPort L). port.sender.unsent.items) (λ (port : DatagramPort D). port.outbox.unsent.items)
 
 -- the frames that wait in the port of this number
@@ -28,6 +29,12 @@ waiting_of lists number = unwrap_or (numbered lists number) []
 pub record AreUnsent (unsent : List Frames) (customers : List (List Step)) : Type 0 where
   pub each : (number : ℕ) → HasSent (left (steps_of customers number)) (waiting_of unsent number)
 
--- of the frames that waited in each port the first were sent, and the others wait
-pub record HaveSent (before after : List Frames) : Type 0 where
-  pub each : (number : ℕ) → HasSent (waiting_of before number) (waiting_of after number)
+-- of the frames that waited in a port the first were sent, and the others wait. What the port wrote meanwhile is the
+-- encoding of those that were sent, if its octets are known
+pub record GoesOn (old new : PortFrames) : Type 0 where
+  pub unsent : HasSent old.waiting new.waiting
+  pub wrote : IsWrittenTo old.output new.output unsent.sent
+
+-- each port has gone on so
+pub record HaveGoneOn (before after : List PortFrames) : Type 0 where
+  pub each : (number : ℕ) → GoesOn (port_of before number) (port_of after number)

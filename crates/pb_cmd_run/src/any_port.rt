@@ -11,7 +11,7 @@ use std::collections::VecDeque;
 pub(crate) enum AnyPort<M, C, S, T, U> {
     /// A script and a LAN in memory.
     Memory(M),
-    /// Two capture files, or one.
+    /// Capture files, two or one.
     Capture(C),
     /// A stream socket with one peer.
     Socket(S),

@@ -6,6 +6,7 @@ ghost use Rattle.std.specs.Io.KnownBytes.{Appends};
 ghost use Rattle.pb_port.specs.Spelling.{file_header};
 
 use crate::cut::{WriteError, cut};
+use crate::run_files::RunFiles;
 use crate::telling::show_path_fault;
 use crate::users::Users;
 use pb_frame::Text;
@@ -34,8 +35,8 @@ pub(crate) struct CaptureFiles {
     pub place: usize,
     /// The path of the file that it reads, if it reads one.
     pub read: Option<Text>,
-    /// The file that it writes, if it writes one.
-    pub written: Option<WrittenFile>,
+    /// The path of the file that it writes, if it writes one.
+    pub write: Option<Text>,
 }
 
 /// Returns the octets of a capture without records, as a capture port writes them before its first record.
@@ -78,7 +79,11 @@ fn complete(file: &File) -> io::Result<()> {
 /// # Errors
 ///
 /// The error with which a write failed, or that of the system.
-fn finish<R: Files<File = File>>(rt: &R, alloc: Global, written: &WrittenFile) -> io::Result<()> {
+pub(crate) fn finish<R: Files<File = File>>(
+    rt: &R,
+    alloc: Global,
+    written: &WrittenFile,
+) -> io::Result<()> {
     match written.error.newest() {
         Some(error) => {
             let _ = cut(rt, alloc, written);
@@ -90,23 +95,25 @@ fn finish<R: Files<File = File>>(rt: &R, alloc: Global, written: &WrittenFile) -
 
 /// Completes the files of ports and taps. Writes a line to `errors` for each to which a write failed. Returns whether
 /// there is none among those of ports.
-pub(crate) fn complete_all<R: Files<File = File>, E: Write>(
-    rt: &R,
+pub(crate) fn complete_all<O: RunFiles, E: Write>(
     alloc: Global,
+    opener: &O,
     users: Users<'_>,
     files: &[CaptureFiles],
     errors: &mut E,
 ) -> bool {
     let mut are_whole = true;
+    let mut output: usize = 0;
     for captures in files {
-        let Some(written) = &captures.written else {
+        let Some(path) = &captures.write else {
             continue;
         };
-        if let Err(error) = finish(rt, alloc, written) {
-            let (place, path) = (captures.place, written.path.as_str());
+        if let Err(error) = opener.complete(output) {
+            let (place, path) = (captures.place, path.as_str());
             show_path_fault(alloc, users, place, Verb::Write, path, &error, errors);
             are_whole = are_whole && place >= users.customers.len();
         }
+        output = output.saturating_add(1);
     }
     are_whole
 }

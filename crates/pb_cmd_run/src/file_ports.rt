@@ -2,14 +2,13 @@
 
 ghost use Rattle.std.specs.Prelude.{◌≡◌, ◌<◌, ◌≤◌, []};
 
-use crate::completing::{CaptureFiles, WrittenFile};
+use crate::completing::WrittenFile;
 use crate::cut::WriteError;
 use crate::input::Input;
 use crate::pacing::{PacedInput, unpaced};
 use crate::pipe::Pipe;
 use crate::sink::Sink;
 use crate::system::Output;
-use pb_frame::Text;
 use pb_port::{CapturePort, Over, Timescale};
 use pb_service::Stamp;
 use std::alloc::{AllocError, Global};
@@ -52,10 +51,11 @@ pub(crate) fn scale_of(stamp: Stamp, day: Timescale) -> Timescale {
 /// # Errors
 ///
 /// `AllocError` if an allocation failed.
-fn parted(alloc: Global, output: Output, path: Text) -> Result<(Sink, WrittenFile), AllocError> {
+pub(crate) fn parted(alloc: Global, output: Output) -> Result<(Sink, WrittenFile), AllocError> {
     let Output {
         file,
         twin,
+        path,
         is_pipe,
         ..
     } = output;
@@ -74,44 +74,7 @@ fn parted(alloc: Global, output: Output, path: Text) -> Result<(Sink, WrittenFil
     Ok((sink, written))
 }
 
-/// Appends the files of a port.
-///
-/// # Errors
-///
-/// `AllocError` if an allocation failed.
-pub(crate) fn put_files(
-    files: &mut Vec<CaptureFiles>,
-    place: usize,
-    read: Option<Text>,
-    written: Option<WrittenFile>,
-) -> Result<(), AllocError> {
-    files.push(CaptureFiles {
-        place,
-        read,
-        written,
-    })?;
-    Ok(())
-}
-
-/// Returns what a port at a place writes to. Its files, with that which it reads, are appended to `files`.
-///
-/// # Errors
-///
-/// `AllocError` if an allocation failed.
-pub(crate) fn sink_of(
-    alloc: Global,
-    files: &mut Vec<CaptureFiles>,
-    place: usize,
-    read: Option<Text>,
-    output: Output,
-    write: Text,
-) -> Result<Sink, AllocError> {
-    let (sink, written) = parted(alloc, output, write)?;
-    put_files(files, place, read, Some(written))?;
-    Ok(sink)
-}
-
-/// Returns a port that reads one capture and writes another.
+/// Returns a port that reads one capture and writes another, or drops the frames that leave.
 pub(crate) fn capture_port(
     alloc: Global,
     capacity: u16,
@@ -132,12 +95,4 @@ pub(crate) fn record_port(alloc: Global, capacity: u16, scale: Timescale, sink: 
 {
     let (input, sink) = (unpaced(Input::Empty), Over::new(sink));
     CapturePort::recording(alloc, capacity, scale, input, sink)
-}
-
-/// Returns a port that reads a capture and drops the frames that leave.
-pub(crate) fn replay_port(alloc: Global, capacity: u16, input: PacedInput) -> FilePort
-    requires { (0 < capacity) × (capacity ≤ 4096) }
-    ensures { result.sender.unsent.items ≡ [] }
-{
-    CapturePort::new(alloc, capacity, input, Over::new(Sink::Nowhere))
 }

@@ -8,6 +8,7 @@
 mod any_port;
 mod attended;
 mod completing;
+mod customer_ports;
 mod cut;
 mod datagram_drops;
 mod datagram_report;
@@ -28,6 +29,8 @@ mod plug;
 mod port_faults;
 mod readers;
 mod report;
+mod rest;
+mod run_files;
 mod settings;
 mod sink;
 mod socket_ports;
@@ -40,13 +43,17 @@ mod visits;
 mod watch;
 mod watched;
 
-pub use network::run_network;
+pub use mio::net::UdpSocket;
+pub use network::{run_network, run_network_over};
 pub use network_fault::NetworkFault;
+pub use pacing::GateClock;
 pub use pb_run_control::{Opening, PeerChange, RunProgress, SocketFailure, Traffic};
 pub use pb_run_losses::{Strictness, lost_of};
 pub use pb_run_ports::{
     Deed, ExposedPort, FileUser, OpenFault, Opened, Openings, PathFault, SharedFile, Verb, open_all,
 };
+pub use peer::Peer;
 pub use pipe::open_unwaiting;
 pub use report::write_report;
+pub use run_files::{FilePair, RunFiles};
 pub use settings::RunSettings;

@@ -1,11 +1,11 @@
 //! The time after a run in which ports write the frames that wait in them.
 
 ghost use Rattle.std.specs.Prelude.{◌≡◌, length, map};
-ghost use Rattle.pb_cmd_run.specs.Unsent.{HaveSent};
-ghost use Rattle.pb_workers.specs.Ports.{HasSent};
+ghost use Rattle.pb_cmd_run.specs.Unsent.{GoesOn, HaveGoneOn};
+ghost use Rattle.pb_workers.specs.Ports.{port_frames};
 
 use pb_port::{Port, Pumped};
-use pb_run::{Held, LaneTap, Recorder, TappedRun};
+use pb_run::{Recorder, Tap, TappedRun};
 use pb_run_control::Traffic;
 use std::thread;
 use std::time::{Clock, Duration, Instant};
@@ -54,8 +54,8 @@ impl Try {
 }
 
 /// Has a port write the frames that its device takes, at this number of ticks.
-pub(crate) fn try_port(port: &mut Held, ticks: u32) -> Try
-    ensures { HasSent (waiting port.old) (waiting port.new) }
+pub(crate) fn try_port<P: Port>(port: &mut P, ticks: u32) -> Try
+    ensures { GoesOn (port_frames P.Port port.old) (port_frames P.Port port.new) }
 {
     match port.pump(ticks) {
         Pumped::Wrote(_) => Try::Moved,
@@ -65,8 +65,8 @@ pub(crate) fn try_port(port: &mut Held, ticks: u32) -> Try
 }
 
 /// Has each port write the frames that its device takes, at this number of ticks.
-fn try_all(ports: &mut [Held], ticks: u32) -> Try
-    ensures { HaveSent (map (λ b. waiting b) ports.old) (map (λ b. waiting b) ports.new) }
+fn try_all<P: Port>(ports: &mut [P], ticks: u32) -> Try
+    ensures { HaveGoneOn (map (port_frames P.Port) ports.old) (map (port_frames P.Port) ports.new) }
 {
     let mut came = Try::Over;
     for index in 0..ports.len() {
@@ -80,7 +80,7 @@ fn try_all(ports: &mut [Held], ticks: u32) -> Try
 }
 
 /// Has a tap write the frames that its file takes, at this number of ticks.
-fn try_tap(tap: &mut LaneTap, ticks: u32) -> Try {
+fn try_tap<T: Port>(tap: &mut Tap<T>, ticks: u32) -> Try {
     match tap.record(ticks, true) {
         Ok(true) => Try::Moved,
         _ if is_waiting(tap) => Try::Waiting,
@@ -89,7 +89,7 @@ fn try_tap(tap: &mut LaneTap, ticks: u32) -> Try {
 }
 
 /// Checks whether frames wait in a tap that could be written.
-fn is_waiting(tap: &mut LaneTap) -> bool {
+fn is_waiting<T: Port>(tap: &mut Tap<T>) -> bool {
     match &mut tap.recorder {
         Recorder::Tape(tape) => !tape.is_gone && tape.unwritten() > 0,
         Recorder::Feeder(_) => false,
@@ -97,7 +97,7 @@ fn is_waiting(tap: &mut LaneTap) -> bool {
 }
 
 /// Has each tap write the frames that its file takes, at this number of ticks.
-pub(crate) fn try_taps(lanes: &mut [Vec<LaneTap>], ticks: u32, ports: Try) -> Try {
+pub(crate) fn try_taps<T: Port>(lanes: &mut [Vec<Tap<T>>], ticks: u32, ports: Try) -> Try {
     let mut came = ports;
     for taps in lanes {
         for tap in taps {
@@ -112,7 +112,7 @@ pub(crate) fn try_taps(lanes: &mut [Vec<LaneTap>], ticks: u32, ports: Try) -> Tr
 }
 
 /// Has each tap write what has come over rings until the last lane ended.
-fn drain_taps(lanes: &mut [Vec<LaneTap>], ticks: u32) {
+fn drain_taps<T: Port>(lanes: &mut [Vec<Tap<T>>], ticks: u32) {
     for _ in 0..MOST_DRAINS {
         if try_taps(lanes, ticks, Try::Over) != Try::Moved {
             return;
@@ -129,13 +129,13 @@ fn is_past<R: Clock>(rt: &R, start: Instant, millis: u32) -> bool {
 }
 
 /// Has ports and taps write until no frame waits that could be written, or the time is over.
-fn write_on<R: Clock>(
+fn write_on<P: Port, T: Port, R: Clock>(
     rt: &R,
-    ports: &mut [Held],
-    lanes: &mut [Vec<LaneTap>],
+    ports: &mut [P],
+    lanes: &mut [Vec<Tap<T>>],
     lingering: Lingering<'_>,
 )
-    ensures { HaveSent (map (λ b. waiting b) ports.old) (map (λ b. waiting b) ports.new) }
+    ensures { HaveGoneOn (map (port_frames P.Port) ports.old) (map (port_frames P.Port) ports.new) }
 {
     let ticks = lingering.traffic.ticks().min(MOST_TICKS) as u32;
     drain_taps(lanes, ticks);
@@ -157,14 +157,18 @@ fn write_on<R: Clock>(
 
 /// Gives the ports and taps of a run time to write the frames that wait in them, and returns when none waits that could
 /// be written or the time is over. All other results of the run stay as they are.
-pub(crate) fn lingered<R: Clock>(rt: &R, run: TappedRun, lingering: Lingering<'_>) -> TappedRun
+pub(crate) fn lingered<P: Port, T: Port, R: Clock>(
+    rt: &R,
+    run: TappedRun<P, T>,
+    lingering: Lingering<'_>,
+) -> TappedRun<P, T>
     ensures counts { result.ran.counts ≡ run.ran.counts }
     ensures last { result.ran.last ≡ run.ran.last }
     ensures ended { result.ran.ended ≡ run.ran.ended }
     ensures settled { result.ran.settled ≡ run.ran.settled }
     ensures ports { length result.ran.ports.items ≡ length run.ran.ports.items }
-    ensures sent { HaveSent (map (λ b. waiting (b.vtable, b.value)) run.ran.ports.items)
-        (map (λ b. waiting (b.vtable, b.value)) result.ran.ports.items) }
+    ensures went_on { HaveGoneOn (map (port_frames P.Port) run.ran.ports.items)
+        (map (port_frames P.Port) result.ran.ports.items) }
 {
     let TappedRun { mut ran, mut taps } = run;
     write_on(rt, ran.ports.as_mut_slice(), taps.as_mut_slice(), lingering);

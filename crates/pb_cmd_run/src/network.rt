@@ -6,31 +6,32 @@ ghost use Rattle.pb_lan.specs.Plans.{IsSound};
 ghost use Rattle.pb_service.specs.PlanFiles.{Tells, IsPlanOf, RefusesFile};
 ghost use Rattle.pb_service.specs.declared.port_spec.PortSpec.{PortSpec};
 ghost use Rattle.pb_report.specs.Refusals.{refusal_line};
+ghost use Rattle.pb_cmd_run.specs.AnyPorts.{of_file};
+ghost use Rattle.pb_cmd_run.specs.Carried.{FileOctets, StartOver};
 ghost use Rattle.pb_cmd_run.specs.Faults.{ComesOf};
-ghost use Rattle.pb_cmd_run.specs.Networks.{PrintsRan, PrintsNetwork};
+ghost use Rattle.pb_cmd_run.specs.Networks.{PrintsRan, PrintsNetwork, PrintsNetworkOver};
 ghost use Rattle.pb_cmd_run.specs.Scripted.{script_at};
 ghost use Rattle.pb_cmd_run.specs.Unsent.{waiting_at};
-ghost use Rattle.pb_run_ports.specs.Opened.{script_in};
 
 use crate::attended::Attended;
-use crate::completing::{CaptureFiles, complete_all};
+use crate::completing::complete_all;
 use crate::datagram_drops::DatagramDrops;
 use crate::linger::Lingering;
 use crate::network_fault::NetworkFault;
 use crate::outcome::tell_run;
-use crate::outside::{Outside, SystemPort, open_ports};
-use crate::peer::remove_sockets;
+use crate::outside::{Outside, open_ports};
 use crate::plug::plug;
+use crate::run_files::RunFiles;
 use crate::settings::RunSettings;
 use crate::socket_ports::Attendance;
 use crate::stalls::show_stalls;
-use crate::taps::{SystemTap, TapPlace, link_names};
+use crate::system::System;
+use crate::taps::link_names;
 use crate::users::Users;
-use crate::watched::Watched;
 use pb_lan::{Limits, Plan, Spanning};
 use pb_messages::write_whole;
 use pb_report::write_refusal;
-use pb_run::{Held, TapPort, run_tapped};
+use pb_run::run_tapped;
 use pb_run_control::{RunProgress, Steering, Traffic};
 use pb_run_losses::Strictness;
 use pb_service::{PlanFault, PlanFile, PortSpec, TapSpec, read_plan_file};
@@ -94,18 +95,17 @@ fn show_left<E: Write>(alloc: Global, left: u64, errors: &mut E) {
 ///
 /// # Errors
 ///
-/// `Memory` if an allocation failed: for the ports or the workers, and then nothing has run, or for the report after
-/// the run. `Spawn` if a thread can't be started, and then nothing has run. `Write` if the report can't be written.
-/// After any fault but `Write` nothing was written to `writer`. `Ports` does not occur, because there are as many ports
-/// as customer ports.
-fn run_ports<R, G: RunProgress, W: Write, E: Write>(
+/// `Memory` if an allocation failed: for the workers, and then nothing has run, or for the report after the run.
+/// `Spawn` if a thread can't be started, and then nothing has run. `Write` if the report can't be written. After any
+/// fault but `Write` nothing was written to `writer`. `Ports` does not occur, because there are as many ports as
+/// customer ports.
+fn run_ports<R, O: RunFiles, G: RunProgress, W: Write, E: Write>(
     rt: &R,
     alloc: Global,
+    opener: &mut O,
     plan: &Plan,
     users: Users<'_>,
-    ports: Vec<Watched<SystemPort>>,
-    taps: Vec<SystemTap>,
-    files: &[CaptureFiles],
+    outside: Outside<O::FilePort>,
     drops: &DatagramDrops,
     limits: Limits,
     is_lossless: bool,
@@ -116,42 +116,48 @@ fn run_ports<R, G: RunProgress, W: Write, E: Write>(
     errors: &mut E,
 ) -> Result<u8, NetworkFault>
 where
-    R: Files<File = File> + Threads + Wait + Clock + Sync,
+    R: Threads + Wait + Clock + Sync,
     requires sound { IsSound plan.now }
-    requires count { vec_len ports ≡ length plan.now.customers }
-    requires fresh { All (λ w. waiting_at w.port ≡ []) ports.items }
-    ensures ok { IfOk result (λ status. (specs : List PortSpec) →
-        map (λ w. script_at w.port) ports.items ≡ map script_in specs
-        → PrintsRan strictness plan.now specs is_lossless status (W.contents writer.old) (W.contents writer.new)) }
+    requires count { vec_len outside.ports ≡ length plan.now.customers }
+    requires paths { length outside.paths.items ≡ length plan.now.customers }
+    requires fresh { All (λ w. waiting_at O.FilePort.waiting w.port ≡ []) outside.ports.items }
+    ensures ok { IfOk result (λ status. (specs : List PortSpec) (was : FileOctets) → StartOver O.reports was specs
+        (map (λ w. script_at O.FilePort.script w.port) outside.ports.items)
+        (map (λ w. of_file O.FilePort.unread w.port) outside.ports.items)
+        (map (λ w. of_file O.FilePort.output w.port) outside.ports.items) outside.paths.items
+        → PrintsRan O.reports was (O.holds opener.new) strictness plan.now specs is_lossless status
+        (W.contents writer.old) (W.contents writer.new)) }
     ensures err { IfErr result (λ e. e ≡ NetworkFault.Ports → ⊥) }
     ensures none { IfErr result (λ e. e ≢ NetworkFault.Write → Keeps (W.contents writer.old) (W.contents writer.new)) }
 {
-    let mut held: Vec<Held> = Vec::with_capacity(alloc, ports.len())?;
-    for port in ports {
-        let port: Held = Box::new(alloc, port)?;
-        held.push(port)?;
-    }
-    let mut recorders = Vec::with_capacity(alloc, taps.len())?;
-    for tap in taps {
-        let SystemTap { place, port } = tap;
-        let TapPlace { link, direction } = place;
-        let port: Held = Box::new(alloc, port)?;
-        recorders.push(TapPort {
-            link,
-            direction,
-            port,
-        })?;
-    }
-    match run_tapped(rt, alloc, plan, held, recorders, gate, limits, is_lossless) {
+    let Outside {
+        ports,
+        taps,
+        files,
+        paths,
+    } = outside;
+    match run_tapped(rt, alloc, plan, ports, taps, gate, limits, is_lossless) {
         Ok(run) => {
             tell_run(
-                rt, alloc, strictness, plan, users, files, drops, run, lingering, gate, writer,
+                rt,
+                alloc,
+                opener,
+                strictness,
+                plan,
+                users,
+                files.as_slice(),
+                paths.as_slice(),
+                drops,
+                run,
+                lingering,
+                gate,
+                writer,
                 errors,
             )
         }
         Err(fault) => {
             gate.close();
-            let _ = complete_all(rt, alloc, users, files, errors);
+            let _ = complete_all(alloc, opener, users, files.as_slice(), errors);
             Err(NetworkFault::from(fault.cause))
         }
     }
@@ -180,9 +186,10 @@ fn attended<'a, R, G>(
 /// # Errors
 ///
 /// The faults of [`run_ports`], and `Path` if a port can't be opened.
-fn run_opened<R, G: RunProgress, W: Write, E: Write>(
+fn run_opened<R, O: RunFiles, G: RunProgress, W: Write, E: Write>(
     rt: &R,
     alloc: Global,
+    opener: &mut O,
     plan: &Plan,
     specs: Vec<PortSpec>,
     taps: Vec<TapSpec>,
@@ -196,12 +203,11 @@ fn run_opened<R, G: RunProgress, W: Write, E: Write>(
     errors: &mut E,
 ) -> Result<u8, NetworkFault>
 where
-    R: Files<File = File> + Net<Listener = TcpListener, Stream = TcpStream>,
-    R: Threads + Wait + Clock + Sync,
+    R: Net<Listener = TcpListener, Stream = TcpStream> + Threads + Wait + Clock + Sync,
     requires sound { IsSound plan.now }
     requires count { vec_len specs ≡ length plan.now.customers }
-    ensures ok { IfOk result (λ status. PrintsRan strictness plan.now specs.items is_lossless status
-        (W.contents writer.old) (W.contents writer.new)) }
+    ensures ok { IfOk result (λ status. PrintsRan O.reports (O.holds opener.old) (O.holds opener.new) strictness
+        plan.now specs.items is_lossless status (W.contents writer.old) (W.contents writer.new)) }
     ensures err { IfErr result (λ e. e ≡ NetworkFault.Ports → ⊥) }
     ensures none { IfErr result (λ e. e ≢ NetworkFault.Write → Keeps (W.contents writer.old) (W.contents writer.new)) }
 {
@@ -217,23 +223,17 @@ where
         taps: names.as_slice(),
     };
     let outside = open_ports(
-        rt, alloc, settings, plan, users, specs, taps, limits, traffic, gate, &mut duty, errors,
+        rt, alloc, opener, settings, plan, users, specs, taps, limits, traffic, gate, &mut duty,
+        errors,
     )?;
-    let Outside {
-        ports,
-        taps,
-        files,
-        sockets,
-    } = outside;
     let gate = attended(rt, gate, plan, duty);
     let ran = run_ports(
         rt,
         alloc,
+        opener,
         plan,
         users,
-        ports,
-        taps,
-        files.as_slice(),
+        outside,
         &drops,
         limits,
         is_lossless,
@@ -243,7 +243,7 @@ where
         writer,
         errors,
     );
-    remove_sockets(rt, sockets.as_slice());
+    opener.remove_sockets();
     ran
 }
 
@@ -307,6 +307,52 @@ where
     ensures due { IfErr result (ComesOf file.now) }
     ensures none { IfErr result (λ e. e ≢ NetworkFault.Write → Keeps (W.contents writer.old) (W.contents writer.new)) }
 {
+    let mut system = System::new(rt, alloc, &settings.input);
+    run_network_over(
+        rt,
+        alloc,
+        &mut system,
+        file,
+        strictness,
+        settings,
+        traffic,
+        gate,
+        writer,
+        errors,
+    )
+}
+
+/// Runs the network of a plan file as [`run_network`] does, with the files and sockets of an opener.
+///
+/// If the octets of the files that ports read are known, the frames in them begin with those that entered there, and
+/// are these after the end or a fault of the octets. If the ports of the opener report the octets that they write, the
+/// frames in the file of each port that writes one are those that left there, but for those that wait at the end. The
+/// file is that at the path after the run, unless a later port of the plan writes it too.
+///
+/// # Errors
+///
+/// Those of [`run_network`].
+pub fn run_network_over<R, O: RunFiles, G: RunProgress, W: Write, E: Write>(
+    rt: &R,
+    alloc: Global,
+    opener: &mut O,
+    file: &[u8],
+    strictness: Strictness,
+    settings: &RunSettings<'_>,
+    traffic: &Arc<Traffic, Global>,
+    gate: &G,
+    writer: &mut W,
+    errors: &mut E,
+) -> Result<u8, NetworkFault>
+where
+    R: Files<File = File> + Net<Listener = TcpListener, Stream = TcpStream>,
+    R: Threads + Wait + Clock + Sync,
+    ensures ok { IfOk result (λ status. PrintsNetworkOver O.reports (O.holds opener.old) (O.holds opener.new) strictness
+        file.now status (W.contents writer.old) (W.contents writer.new)) }
+    ensures err { IfErr result (λ e. e ≡ NetworkFault.Ports → ⊥) }
+    ensures due { IfErr result (ComesOf file.now) }
+    ensures none { IfErr result (λ e. e ≢ NetworkFault.Write → Keeps (W.contents writer.old) (W.contents writer.new)) }
+{
     match read_plan_file(alloc, file) {
         Ok(
             PlanFile {
@@ -328,6 +374,7 @@ where
             let ran = run_opened(
                 rt,
                 alloc,
+                opener,
                 &plan,
                 ports,
                 taps,

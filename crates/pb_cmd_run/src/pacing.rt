@@ -27,9 +27,9 @@ pub(crate) struct PortClock {
 
 /// The gate's side of a clock.
 #[derive(Drop)]
-pub(crate) struct GateClock {
+pub struct GateClock {
     /// The number of the port in the plan, from 1.
-    pub number: u8,
+    pub(crate) number: u8,
     word: Arc<AtomicU64, Global>,
 }
 

@@ -2,6 +2,7 @@
 
 use crate::completing::CaptureFiles;
 use crate::input::input_path;
+use crate::run_files::RunFiles;
 use crate::telling::name_at;
 use pb_frame::Memory;
 use pb_lan::CustomerPlan;
@@ -30,7 +31,8 @@ fn first_octets(rt: &impl Files, path: &str) -> io::Result<[u8; 4]> {
 }
 
 /// Returns whether the regular file at a path begins as pcapng does. Pipes and devices are not read again.
-fn is_pcapng(rt: &impl Files, path: &str) -> bool {
+pub(crate) fn is_pcapng(rt: &impl Files, path: &str) -> bool {
+    let path = input_path(path);
     match fs::metadata(rt, path) {
         Ok(metadata) if metadata.is_file() => match first_octets(rt, path) {
             Ok(octets) => octets == MAGIC,
@@ -49,9 +51,9 @@ fn put_pcapng(out: &mut String, name: &str, path: &str) -> Result<(), Memory> {
 }
 
 /// Writes a line to `errors` for each port whose input was refused because it is pcapng.
-pub(crate) fn show_pcapng<E: Write>(
-    rt: &impl Files,
+pub(crate) fn show_pcapng<O: RunFiles, E: Write>(
     alloc: Global,
+    opener: &O,
     customers: &[CustomerPlan],
     files: &[CaptureFiles],
     lasts: &[Last],
@@ -66,7 +68,7 @@ pub(crate) fn show_pcapng<E: Write>(
             lasts.get(capture.place),
             Some(Last::Fault(PortFault::Magic))
         );
-        if !is_refused || !is_pcapng(rt, input_path(path)) {
+        if !is_refused || !opener.is_pcapng(path) {
             continue;
         }
         let name = name_at(customers, capture.place);

@@ -21,7 +21,7 @@ enum Socket {
 
 /// The peer of a socket port.
 #[derive(Drop)]
-pub(crate) struct Peer {
+pub struct Peer {
     socket: Socket,
     /// The path at which a port that stays connects again.
     path: Option<Text>,

@@ -9,7 +9,7 @@ use pb_frame::Memory;
 use pb_lan::{CustomerPlan, Plan};
 use pb_messages::{CommandFault, write_whole};
 use pb_port::PortFault;
-use pb_run::{Last, Ran};
+use pb_run::Last;
 use std::alloc::Global;
 use std::io::Write;
 
@@ -105,11 +105,11 @@ pub(crate) fn show_port_faults<E: Write>(
     alloc: Global,
     plan: &Plan,
     files: &[CaptureFiles],
-    ran: &Ran,
+    lasts: &[Last],
     errors: &mut E,
 )
-    requires { length ran.now.last.items ≡ length plan.now.customers }
+    requires { length lasts.now ≡ length plan.now.customers }
 {
     let customers = plan.customers.as_slice();
-    let _ = write_port_faults(alloc, customers, files, ran.last.as_slice(), errors);
+    let _ = write_port_faults(alloc, customers, files, lasts, errors);
 }

@@ -1,17 +1,20 @@
 //! The waits for the readers of the pipes that a run writes.
 
 ghost use Rattle.std.specs.Prelude.{◌≡◌, length, map};
-ghost use Rattle.pb_cmd_run.specs.Unsent.{HaveSent};
+ghost use Rattle.pb_cmd_run.specs.Unsent.{HaveGoneOn};
+ghost use Rattle.pb_workers.specs.Ports.{port_frames};
 
 use crate::completing::CaptureFiles;
 use crate::linger::{Try, try_port, try_taps};
-use crate::outside::SystemOpened;
-use crate::system::Output;
+use crate::peer::Peer;
+use crate::run_files::RunFiles;
 use crate::users::{Users, put_user};
+use mio::net::UdpSocket;
 use mio::unix::SourceFd;
 use mio::{Events, Interest, Poll, Token};
 use pb_lan::Place;
-use pb_run::{Ended, Go, Held, LaneTap, TappedRun};
+use pb_port::Port;
+use pb_run::{Ended, Go, Tap, TappedRun};
 use pb_run_control::{RunProgress, Traffic};
 use pb_run_ports::Opened;
 use std::alloc::Global;
@@ -41,7 +44,7 @@ const FIRST: Place = Place::Bridge(1);
 /// # Errors
 ///
 /// The error of the system. A device that can't be watched has one too.
-fn has_reader(net: &impl Net, alloc: Global, file: &File) -> io::Result<bool> {
+pub(crate) fn has_reader(net: &impl Net, alloc: Global, file: &File) -> io::Result<bool> {
     let mut poll = Poll::new(net)?;
     let mut events = Events::with_capacity(alloc, 1)?;
     let number = file.as_raw_fd();
@@ -53,7 +56,7 @@ fn has_reader(net: &impl Net, alloc: Global, file: &File) -> io::Result<bool> {
 }
 
 /// Returns the file that an open port or tap writes, if it writes one.
-fn output_of(opened: &SystemOpened) -> Option<&Output> {
+fn output_of<I, O>(opened: &Opened<I, O, Peer, UdpSocket>) -> Option<&O> {
     match opened {
         Opened::Capture { output, .. } | Opened::Record { output, .. } => Some(output),
         _ => None,
@@ -70,16 +73,17 @@ fn tell_waiting<G: RunProgress>(alloc: Global, gate: &G, users: Users<'_>, place
 
 /// Waits until the pipe that the user at a place writes has a reader, or the gate stops the run. Returns which of the
 /// two it was. A pipe that can't be watched is not waited for.
-fn await_reader<R: Net + Clock, G: RunProgress>(
+fn await_reader<R: Clock, O: RunFiles, G: RunProgress>(
     rt: &R,
     alloc: Global,
+    opener: &O,
     gate: &G,
     users: Users<'_>,
     place: usize,
-    output: &Output,
+    output: &O::Output,
 ) -> Go {
     for pauses in 0..u64::MAX {
-        if !matches!(has_reader(rt, alloc, &output.twin), Ok(false)) {
+        if !opener.lacks_reader(output) {
             return Go::Go;
         }
         if gate.pass_when_idle(FIRST, 0) == Go::Stop {
@@ -95,20 +99,19 @@ fn await_reader<R: Net + Clock, G: RunProgress>(
 
 /// Waits until each pipe that is written has a reader, or the gate stops the run. The first of the open parts is the
 /// user of files at the place `first`.
-pub(crate) fn await_readers<R: Net + Clock, G: RunProgress>(
+pub(crate) fn await_readers<R: Clock, O: RunFiles, G: RunProgress>(
     rt: &R,
     alloc: Global,
+    opener: &O,
     gate: &G,
     users: Users<'_>,
     first: usize,
-    opened: &[SystemOpened],
+    opened: &[Opened<O::Input, O::Output, Peer, UdpSocket>],
 ) -> Go {
     let mut place = first;
     for part in opened {
         if let Some(output) = output_of(part) {
-            let goes_on = !output.is_pipe
-                || await_reader(rt, alloc, gate, users, place, output) == Go::Go;
-            if !goes_on {
+            if await_reader(rt, alloc, opener, gate, users, place, output) == Go::Stop {
                 return Go::Stop;
             }
         }
@@ -118,11 +121,11 @@ pub(crate) fn await_readers<R: Net + Clock, G: RunProgress>(
 }
 
 /// Has the port of these files, if it writes one, write the frames that the file takes, at this number of ticks.
-fn try_file(ports: &mut [Held], captures: &CaptureFiles, ticks: u32) -> Try
-    ensures { HaveSent (map (λ b. waiting b) ports.old) (map (λ b. waiting b) ports.new) }
+fn try_file<P: Port>(ports: &mut [P], captures: &CaptureFiles, ticks: u32) -> Try
+    ensures { HaveGoneOn (map (port_frames P.Port) ports.old) (map (port_frames P.Port) ports.new) }
 {
     let place = captures.place;
-    if captures.written.is_none() {
+    if captures.write.is_none() {
         return Try::Over;
     }
     if place >= ports.len() {
@@ -132,8 +135,8 @@ fn try_file(ports: &mut [Held], captures: &CaptureFiles, ticks: u32) -> Try
 }
 
 /// Has each port that writes a file write the frames that the file takes, at this number of ticks.
-fn try_files(ports: &mut [Held], files: &[CaptureFiles], ticks: u32) -> Try
-    ensures { HaveSent (map (λ b. waiting b) ports.old) (map (λ b. waiting b) ports.new) }
+fn try_files<P: Port>(ports: &mut [P], files: &[CaptureFiles], ticks: u32) -> Try
+    ensures { HaveGoneOn (map (port_frames P.Port) ports.old) (map (port_frames P.Port) ports.new) }
 {
     let mut came = Try::Over;
     for captures in files {
@@ -144,15 +147,15 @@ fn try_files(ports: &mut [Held], files: &[CaptureFiles], ticks: u32) -> Try
 
 /// Has ports and taps write, at this number of ticks, until their files have taken every frame or the gate stops the
 /// run.
-fn write_out<R: Clock, G: RunProgress>(
+fn write_out<P: Port, T: Port, R: Clock, G: RunProgress>(
     rt: &R,
     gate: &G,
     files: &[CaptureFiles],
-    ports: &mut [Held],
-    lanes: &mut [Vec<LaneTap>],
+    ports: &mut [P],
+    lanes: &mut [Vec<Tap<T>>],
     ticks: u32,
 )
-    ensures { HaveSent (map (λ b. waiting b) ports.old) (map (λ b. waiting b) ports.new) }
+    ensures { HaveGoneOn (map (port_frames P.Port) ports.old) (map (port_frames P.Port) ports.new) }
 {
     for _ in 0..u64::MAX {
         let ported = try_files(ports, files, ticks);
@@ -169,20 +172,20 @@ fn write_out<R: Clock, G: RunProgress>(
 
 /// Has the ports and taps of a run that has drained write until their files have taken every frame, however slow the
 /// readers of pipes are, or the gate stops the run. All other results of the run stay as they are.
-pub(crate) fn read_out<R: Clock, G: RunProgress>(
+pub(crate) fn read_out<P: Port, T: Port, R: Clock, G: RunProgress>(
     rt: &R,
     gate: &G,
     files: &[CaptureFiles],
-    run: TappedRun,
+    run: TappedRun<P, T>,
     traffic: &Traffic,
-) -> TappedRun
+) -> TappedRun<P, T>
     ensures counts { result.ran.counts ≡ run.ran.counts }
     ensures last { result.ran.last ≡ run.ran.last }
     ensures ended { result.ran.ended ≡ run.ran.ended }
     ensures settled { result.ran.settled ≡ run.ran.settled }
     ensures ports { length result.ran.ports.items ≡ length run.ran.ports.items }
-    ensures sent { HaveSent (map (λ b. waiting (b.vtable, b.value)) run.ran.ports.items)
-        (map (λ b. waiting (b.vtable, b.value)) result.ran.ports.items) }
+    ensures went_on { HaveGoneOn (map (port_frames P.Port) run.ran.ports.items)
+        (map (port_frames P.Port) result.ran.ports.items) }
 {
     if run.ran.ended != Ended::Drained {
         return run;

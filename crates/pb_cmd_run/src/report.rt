@@ -109,7 +109,7 @@ fn put_faults(
 /// # Errors
 ///
 /// `Memory` if an allocation failed.
-fn put_run(alloc: Global, out: &mut String, plan: &Plan, ran: &Ran) -> Result<u8, Memory>
+fn put_run<P>(alloc: Global, out: &mut String, plan: &Plan, ran: &Ran<P>) -> Result<u8, Memory>
     requires sound { IsSound plan.now }
     requires settled { IfOk ran.now.settled (TellsSettled plan.now ran.now.counts) }
     requires count { length ran.now.last.items ≡ length plan.now.customers }
@@ -139,10 +139,10 @@ fn put_run(alloc: Global, out: &mut String, plan: &Plan, ran: &Ran) -> Result<u8
 /// # Errors
 ///
 /// `Write` if the write failed. `Memory` if an allocation failed, and then nothing was written.
-pub fn write_report<W: Write>(
+pub fn write_report<P, W: Write>(
     alloc: Global,
     plan: &Plan,
-    ran: &Ran,
+    ran: &Ran<P>,
     writer: &mut W,
 ) -> Result<u8, CommandFault>
     requires sound { IsSound plan.now }

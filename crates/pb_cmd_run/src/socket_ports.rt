@@ -1,20 +1,21 @@
 //! Ports over sockets.
 
 ghost use Rattle.std.specs.Prelude.{◌≡◌, ◌<◌, ◌≤◌, [], None, IfOk};
+ghost use Rattle.pb_cmd_run.specs.AnyPorts.{of_file};
 ghost use Rattle.pb_cmd_run.specs.Scripted.{script_at};
 ghost use Rattle.pb_cmd_run.specs.Unsent.{waiting_at};
 
 use crate::any_port::AnyPort;
+use crate::customer_ports::CustomerPort;
 use crate::datagram_drops::DatagramDrops;
 use crate::datagram_socket::DatagramSocket;
 use crate::door::{GateDoor, make_door};
-use crate::outside::SystemPort;
 use crate::pacing::GateClock;
 use crate::peer::Peer;
 use crate::watch::{Post, Watches};
 use mio::net::UdpSocket;
 use pb_datagram::{DatagramPort, Encapsulation, Tunnel, Vni};
-use pb_port::{LengthField, Over, SocketPort, StayingPort};
+use pb_port::{LengthField, Over, Port, SocketPort, StayingPort};
 use std::alloc::{AllocError, Global};
 use std::net::SocketAddr;
 use std::sync::Arc;
@@ -60,7 +61,7 @@ fn framing_of(framing: pb_service::LengthField) -> LengthField {
 /// # Errors
 ///
 /// `AllocError` if an allocation failed.
-pub(crate) fn socket_port(
+pub(crate) fn socket_port<F: Port>(
     alloc: Global,
     capacity: u16,
     number: u8,
@@ -69,10 +70,12 @@ pub(crate) fn socket_port(
     stays: bool,
     post: Post,
     doors: &mut Vec<GateDoor>,
-) -> Result<SystemPort, AllocError>
+) -> Result<CustomerPort<F>, AllocError>
     requires { (0 < capacity) × (capacity ≤ 4096) }
-    ensures script { IfOk result (λ port. script_at port ≡ None) }
-    ensures fresh { IfOk result (λ port. waiting_at port ≡ []) }
+    ensures script { IfOk result (λ port. script_at F.script port ≡ None) }
+    ensures fresh { IfOk result (λ port. waiting_at F.waiting port ≡ []) }
+    ensures unread { IfOk result (λ port. of_file F.unread port ≡ None) }
+    ensures output { IfOk result (λ port. of_file F.output port ≡ None) }
 {
     let (mut peer, framing) = (stream, framing_of(framing));
     peer.watch(post);
@@ -110,7 +113,7 @@ fn tunnel_of(peer: SocketAddr, network: Option<u32>) -> Tunnel {
 /// # Errors
 ///
 /// `AllocError` if an allocation failed.
-pub(crate) fn datagram_port(
+pub(crate) fn datagram_port<F: Port>(
     alloc: Global,
     capacity: u16,
     number: u8,
@@ -119,10 +122,12 @@ pub(crate) fn datagram_port(
     network: Option<u32>,
     post: Post,
     drops: &Arc<DatagramDrops, Global>,
-) -> Result<SystemPort, AllocError>
+) -> Result<CustomerPort<F>, AllocError>
     requires { (0 < capacity) × (capacity ≤ 4096) }
-    ensures script { IfOk result (λ port. script_at port ≡ None) }
-    ensures fresh { IfOk result (λ port. waiting_at port ≡ []) }
+    ensures script { IfOk result (λ port. script_at F.script port ≡ None) }
+    ensures fresh { IfOk result (λ port. waiting_at F.waiting port ≡ []) }
+    ensures unread { IfOk result (λ port. of_file F.unread port ≡ None) }
+    ensures output { IfOk result (λ port. of_file F.output port ≡ None) }
 {
     let mut socket = socket;
     post.register(&mut socket);

@@ -4,20 +4,25 @@ ghost use Rattle.std.specs.Prelude.{◌≡◌, ◌++◌, List, OnOk};
 ghost use Rattle.pb_service.specs.declared.port_spec.PortSpec.{PortSpec};
 
 use crate::completing::CaptureFiles;
-use crate::file_ports::{FilePort, record_port, scale_of, sink_of};
-use crate::outside::SystemOpened;
+use crate::file_ports::scale_of;
+use crate::peer::Peer;
+use crate::run_files::{FilePair, RunFiles};
+use mio::net::UdpSocket;
 use pb_frame::Memory;
 use pb_lan::Plan;
 use pb_messages::write_whole;
-use pb_port::Timescale;
-use pb_run::{LaneTap, Recorder, TapDirection};
+use pb_port::{Port, Timescale};
+use pb_run::{Recorder, Tap, TapDirection, TapPort};
 use pb_run_ports::Opened;
-use pb_service::{PortSpec, TapSpec};
+use pb_service::{Pace, PortSpec, TapSpec};
 use std::alloc::{AllocError, Global};
 use std::io::Write;
 
 /// The number of frames that wait to be written to the capture of a tap.
 const QUEUE: u16 = 256;
+
+/// The number of the port of a tap, which no customer port has.
+const NUMBER: u8 = 0;
 
 /// The link and the directions of a tap.
 #[derive(Clone, Copy)]
@@ -26,15 +31,6 @@ pub(crate) struct TapPlace {
     pub link: u8,
     /// The directions that are recorded.
     pub direction: TapDirection,
-}
-
-/// A tap over its open file.
-#[derive(Drop)]
-pub(crate) struct SystemTap {
-    /// Its link and directions.
-    pub place: TapPlace,
-    /// The port that writes the file.
-    pub port: FilePort,
 }
 
 /// Returns the directions of a tap of a plan file.
@@ -107,14 +103,15 @@ pub(crate) fn link_names<'a>(
 /// # Errors
 ///
 /// `AllocError` if an allocation failed.
-fn put_tap(
+fn put_tap<O: RunFiles>(
     alloc: Global,
+    opener: &mut O,
     user: usize,
     place: TapPlace,
     day: Timescale,
-    opened: SystemOpened,
+    opened: Opened<O::Input, O::Output, Peer, UdpSocket>,
     files: &mut Vec<CaptureFiles>,
-    taps: &mut Vec<SystemTap>,
+    taps: &mut Vec<TapPort<O::FilePort>>,
 ) -> Result<(), AllocError> {
     match opened {
         Opened::Record {
@@ -122,9 +119,23 @@ fn put_tap(
             write,
             stamp,
         } => {
-            let sink = sink_of(alloc, files, user, None, output, write)?;
-            let port = record_port(alloc, QUEUE, scale_of(stamp, day), sink);
-            taps.push(SystemTap { place, port })?;
+            files.push(CaptureFiles {
+                place: user,
+                read: None,
+                write: Some(write),
+            })?;
+            let (scale, pace) = (scale_of(stamp, day), Pace::AtOnce);
+            let pair = FilePair {
+                input: None,
+                output: Some(output),
+            };
+            let port = opener.file_port(alloc, QUEUE, NUMBER, scale, pace, pair)?;
+            let TapPlace { link, direction } = place;
+            taps.push(TapPort {
+                link,
+                direction,
+                port,
+            })?;
             Ok(())
         }
         _other => Ok(()),
@@ -137,20 +148,21 @@ fn put_tap(
 /// # Errors
 ///
 /// `AllocError` if an allocation failed.
-pub(crate) fn taps_of(
+pub(crate) fn taps_of<O: RunFiles>(
     alloc: Global,
+    opener: &mut O,
     first: usize,
     places: &[TapPlace],
     day: Timescale,
-    opened: Vec<SystemOpened>,
+    opened: Vec<Opened<O::Input, O::Output, Peer, UdpSocket>>,
     files: &mut Vec<CaptureFiles>,
-) -> Result<Vec<SystemTap>, AllocError> {
+) -> Result<Vec<TapPort<O::FilePort>>, AllocError> {
     let mut taps = Vec::new(alloc);
     let mut index: usize = 0;
     for file in opened {
         if let Some(place) = places.get(index) {
             let user = first.saturating_add(index);
-            put_tap(alloc, user, *place, day, file, files, &mut taps)?;
+            put_tap(alloc, opener, user, *place, day, file, files, &mut taps)?;
         }
         index = index.saturating_add(1);
     }
@@ -158,7 +170,7 @@ pub(crate) fn taps_of(
 }
 
 /// Appends a line about the frames that a tap did not write, if there are any.
-fn put_unwritten(out: &mut String, link: &str, tap: &mut LaneTap) -> Result<(), Memory> {
+fn put_unwritten<T: Port>(out: &mut String, link: &str, tap: &mut Tap<T>) -> Result<(), Memory> {
     if let Recorder::Tape(tape) = &mut tap.recorder {
         let count = tape.unwritten();
         if count > 0 {
@@ -169,10 +181,10 @@ fn put_unwritten(out: &mut String, link: &str, tap: &mut LaneTap) -> Result<(), 
 }
 
 /// Appends a line for each tap that did not write frames.
-fn put_all_unwritten(
+fn put_all_unwritten<T: Port>(
     out: &mut String,
     plan: &Plan,
-    lanes: &mut [Vec<LaneTap>],
+    lanes: &mut [Vec<Tap<T>>],
 ) -> Result<(), Memory> {
     let mut lane: usize = 0;
     for taps in lanes {
@@ -187,10 +199,10 @@ fn put_all_unwritten(
 
 /// Writes a line to `errors` for each tap that did not write frames: `tap of link NAME: N frames not written`. A failed
 /// write or allocation is ignored.
-pub(crate) fn show_unwritten<E: Write>(
+pub(crate) fn show_unwritten<T: Port, E: Write>(
     alloc: Global,
     plan: &Plan,
-    lanes: &mut [Vec<LaneTap>],
+    lanes: &mut [Vec<Tap<T>>],
     errors: &mut E,
 ) {
     let mut out = String::new(alloc);

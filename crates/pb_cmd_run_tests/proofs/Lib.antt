@@ -1,1 +1,3 @@
+mod MovedLemmas
 pub mod StrictLaws
+pub mod StoreLemmas

@@ -8,9 +8,10 @@ use Rattle.pb_frame.proofs.Lists.{and-left}
 use Rattle.pb_report.specs.Refusals.{PrintsRefusal}
 use Rattle.pb_run.specs.declared.ended.Ended.{Ended}
 use Rattle.pb_run.specs.declared.ended.Ended.TheVariants.{Drained, NoMemory, Limit, Stopped}
+use Rattle.pb_cmd_run.specs.Carried.{unknown}
 use Rattle.pb_cmd_run.specs.Networks.{PrintsNetwork, PrintsRunOf, HasCarriedAll}
 use Rattle.pb_cmd_run.specs.Reports.{IsRunReport}
-use Rattle.pb_cmd_run.proofs.NetworkLemmas.{on_value}
+use Rattle.pb_run.proofs.Values.{on_value}
 use Rattle.pb_run_losses.specs.Strict.{exit_status, is_whole, lost_text}
 use Rattle.pb_run_losses.specs.declared.strictness.Strictness.{Strictness}
 use Rattle.pb_run_losses.specs.declared.strictness.Strictness.TheVariants.{Strict}
@@ -40,11 +41,11 @@ told_at false zero e = refl
 told_at false (suc told) e = cc
 
 of_run : (file : List ℕ) (status : ℕ) (before after : Option (List ℕ)) → status ≡ 0
-    → PrintsRunOf Strict file status before after → HasCarriedAll file before after
+    → PrintsRunOf false unknown unknown Strict file status before after → HasCarriedAll file before after
 of_run file status before after e run =
     let ran = run.prints in
     let report = ran.report in
-    let lost = lost_text run.plan ran.rec ran.settled report.unsent in
+    let lost = lost_text run.plan ran.rec ran.settled ran.unsent in
     let status = sym e ∙ report.status_is in
     let whole = and-left (is_whole ran.ended lost) report.files_whole
     (whole_at (is_whole ran.ended lost && report.files_whole) report.told status) in
@@ -63,7 +64,7 @@ of_run file status before after e run =
       scripted = ran.scripted;
       drained = (ran.tells_ended.0 drained).1;
       settled = ran.settled;
-      unsent = report.unsent;
+      unsent = ran.unsent;
       unsent_count = report.unsent_count;
       unsent_is = report.unsent_is;
       lost = nothing_at ran.ended lost whole;
@@ -85,7 +86,8 @@ neither status nil one = cc
 pub zero_carried : (file : List ℕ) (status : ℕ) (before after : Option (List ℕ)) → status ≡ 0
     → PrintsNetwork Strict file status before after → HasCarriedAll file before after
 zero_carried file status before after e prints =
-    by_case {A = (status ≡ 1) × PrintsRefusal file before after} {B = PrintsRunOf Strict file status before after}
+    by_case {A = (status ≡ 1) × PrintsRefusal file before after}
+    {B = PrintsRunOf false unknown unknown Strict file status before after}
     {C = HasCarriedAll file before after}
     prints (λ refusal. neither status e refusal.0) (λ run. of_run file status before after e run)
 
@@ -96,7 +98,6 @@ pub strict_carried : (strictness : Strictness) (file text : List ℕ) (before af
     → IfOk r (λ status. status ≡ 0 → HasCarriedAll text before after)
 strict_carried strictness file text before after r same p strict =
     on_value {P = λ status. PrintsNetwork strictness file status before after}
-    {Q = λ status. status ≡ 0 → HasCarriedAll text before after} r
+    {Q = λ status. status ≡ 0 → HasCarriedAll text before after} r p
     (λ status prints e. subst (λ f. HasCarriedAll f before after) same (zero_carried file status before after e
     (subst (λ s. PrintsNetwork s file status before after) strict prints)))
-    p

@@ -23,6 +23,7 @@ mod lost;
 mod memory;
 mod one_way;
 mod openings;
+mod over;
 mod peers;
 mod pipes;
 mod plans;

@@ -1,4 +1,5 @@
 mod Lists
+pub mod Values
 mod Wiring
 mod EndsThere
 mod Gifts

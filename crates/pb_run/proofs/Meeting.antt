@@ -40,20 +40,19 @@ begins_there part_of whole_of one two xs ys r s n m x y at_x at_y n_is m_is begi
 -- the worker of a bridge is at its index
 pub bridge_here : {X : Type 0} (gift : X → BridgeGift) (plan : Plan) (xs : List X) (bridge i : ℕ) (x : X)
     → AreBridges plan (length plan.bridges) (map gift xs) → IsNumber bridge (length plan.bridges)
-    → i ≡ bridge → x ≡ get_or xs (i - 1) x → slice_get xs (i - 1) ≡ Some x
+    → i ≡ bridge - 1 → x ≡ get_or xs i x → slice_get xs i ≡ Some x
 bridge_here gift plan xs bridge i x are number e value =
-    here_is xs (i - 1) x (omega (arith, are.counted, length-map xs gift, number.0, number.1)) value
+    here_is xs i x (omega (arith, are.counted, length-map xs gift, number.0, number.1)) value
 
 -- the rings of a bridge's port are these, and there is an index for them
 pub bridge_rings : {X : Type 0} (gift : X → BridgeGift) (plan : Plan) (xs : List X) (bridge port i : ℕ) (x : X)
     → AreBridges plan (length plan.bridges) (map gift xs) → IsNumber bridge (length plan.bridges)
-    → IsNumber port 16 → i ≡ bridge → x ≡ get_or xs (i - 1) x
+    → IsNumber port 16 → i ≡ bridge - 1 → x ≡ get_or xs i x
     → (slice_index_or (gift x).ins (port - 1) 0 ≡ ring_into bridge port)
     × (slice_index_or (gift x).outs (port - 1) 0 ≡ ring_out bridge port) × (length (gift x).ins ≡ 16)
 bridge_rings gift plan xs bridge port i x are number there e value =
-    let at = part_at gift xs (i - 1) x (bridge_here gift plan xs bridge i x are number e value) in
-    let same : i - 1 ≡ bridge - 1 = ap (λ n. n - 1) e in
-    let here : slice_get (map gift xs) (bridge - 1) ≡ Some (gift x) = ap (slice_get (map gift xs)) (sym same) ∙ at in
+    let at = part_at gift xs i x (bridge_here gift plan xs bridge i x are number e value) in
+    let here : slice_get (map gift xs) (bridge - 1) ≡ Some (gift x) = ap (slice_get (map gift xs)) (sym e) ∙ at in
     let rings = rings_at plan (map gift xs) bridge port (gift x) are here number.0 there.0 there.1 in
     (rings.0, rings.1, (are.each (bridge - 1) (gift x) here).count)
 

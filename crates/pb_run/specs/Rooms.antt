@@ -34,7 +34,7 @@ pub record HasPartRooms {A P : Type 0} (customers : ℕ) (rooms : Parts A P) : T
   pub lasts : IsEmptyFor customers rooms.lasts
 
 -- the lists for all that comes back of the plan's places are empty, with capacity for it
-pub record HasRooms {C A P : Type 0} (plan : Plan) (rooms : Rooms C A P) : Type 0 where
+pub record HasRooms {C A P T : Type 0} (plan : Plan) (rooms : Rooms C A P T) : Type 0 where
   pub workers : IsEmptyFor (length plan.customers) rooms.workers
   pub parts : HasPartRooms (length plan.customers) rooms.parts
   pub gathered : HasPlaceRooms plan rooms.gathered

@@ -18,11 +18,11 @@ pub enum RunCause {
 
 /// A run that did not start: the reason, and the ports that it was given. No port was polled or offered a frame.
 #[derive(Drop)]
-pub struct RunFault {
+pub struct RunFault<P = Held> {
     /// The reason.
     pub cause: RunCause,
     /// The ports, unchanged and in their order.
-    pub ports: Vec<Held>,
+    pub ports: Vec<P>,
 }
 
 /// Returns the cause of a fault of the workers.

@@ -13,6 +13,7 @@ ghost use Rattle.pb_run.specs.Meetings.{of_customers, of_lanes};
 ghost use Rattle.pb_run.specs.Wires.{ring_into, ring_out};
 ghost use Rattle.pb_run.specs.Workers.{AreSameBridges, AreSameLanes, AreSameAccesses};
 
+use pb_frame::index_of;
 use pb_lan::{End, Plan};
 use pb_ring::Wiring;
 use pb_workers::{Access, BridgeWorker, LaneWorker};
@@ -35,7 +36,7 @@ fn meet_access<W: Wiring>(
         (map (λ d. d.place.steps) accesses.old.items)) (place + 1) c }
 {
     let customer = &plan.customers.as_slice()[place];
-    let bridge = &mut bridges[usize::from(customer.bridge) - 1];
+    let bridge = &mut bridges[index_of(customer.bridge)];
     bridge.meet_customer(customer.port, &mut accesses[place]);
 }
 
@@ -76,7 +77,7 @@ fn meet_away<W: Wiring, P>(
     ensures onto { IsBeginning (taken (steps_of (map (λ l. l.lane.steps) lanes.old.items) (place + 1)))
         (transmitted from.now.port (steps_of (map (λ b. b.bridge.steps) bridges.old.items) from.now.bridge)) }
 {
-    let bridge = &mut bridges[usize::from(from.bridge) - 1];
+    let bridge = &mut bridges[index_of(from.bridge)];
     bridge.meet_lane_away(from.port, &mut lanes[place]);
 }
 
@@ -98,7 +99,7 @@ fn meet_here<W: Wiring, P>(
         (received to.now.port (steps_of (map (λ b. b.bridge.steps) bridges.old.items) to.now.bridge))
         (put (steps_of (map (λ l. l.lane.steps) lanes.old.items) (place + 1))) }
 {
-    let bridge = &mut bridges[usize::from(to.bridge) - 1];
+    let bridge = &mut bridges[index_of(to.bridge)];
     bridge.meet_lane_here(to.port, &mut lanes[place]);
 }
 

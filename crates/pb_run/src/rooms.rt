@@ -4,7 +4,7 @@ ghost use Rattle.std.specs.Prelude.{IfOk};
 ghost use Rattle.pb_lan.specs.Plans.{IsSound};
 ghost use Rattle.pb_run.specs.Rooms.{HasPartRooms, HasPlaceRooms, HasRooms};
 
-use crate::outside::{Held, Parts};
+use crate::outside::Parts;
 use crate::record::Gathered;
 use pb_frame::Memory;
 use pb_lan::Plan;
@@ -22,26 +22,29 @@ pub(crate) struct GatheredPlaces<P> {
     pub taps: Vec<Vec<Tap<P>>>,
 }
 
-/// Empty lists with capacity for what comes back. The ports outside and those of taps are of one type.
+/// Empty lists with capacity for what comes back: ports outside of type `P`, and those of taps of type `T`.
 #[derive(Drop)]
-pub(crate) struct Rooms<C, A, P> {
+pub(crate) struct Rooms<C, A, P, T> {
     /// The workers of customer ports.
     pub workers: Vec<C>,
     /// The parts of these workers.
     pub parts: Parts<A, P>,
     /// The counts and steps of all places.
-    pub gathered: GatheredPlaces<P>,
+    pub gathered: GatheredPlaces<T>,
 }
 
-/// The lists for places over rings of this wiring.
-pub(crate) type RoomsOf<W> = Rooms<CustomerWorker<W, Held>, Access<W>, Held>;
+/// The lists for places over rings of this wiring, with these ports outside and these of taps.
+pub(crate) type RoomsOf<W, P, T> = Rooms<CustomerWorker<W, P>, Access<W>, P, T>;
 
 /// Allocates lists for the parts of `customers` workers of customer ports.
 ///
 /// # Errors
 ///
 /// `Memory` if an allocation failed.
-fn part_rooms<W: Wiring>(alloc: Global, customers: usize) -> Result<Parts<Access<W>, Held>, Memory>
+fn part_rooms<W: Wiring, P: Drop>(
+    alloc: Global,
+    customers: usize,
+) -> Result<Parts<Access<W>, P>, Memory>
     ensures { IfOk result (HasPartRooms customers) }
 {
     let lasts = Vec::with_capacity(alloc, customers)?;
@@ -79,12 +82,15 @@ fn place_rooms<P>(alloc: Global, plan: &Plan) -> Result<GatheredPlaces<P>, Memor
 /// # Errors
 ///
 /// `Memory` if an allocation failed.
-pub(crate) fn rooms_of<W: Wiring>(alloc: Global, plan: &Plan) -> Result<RoomsOf<W>, Memory>
+pub(crate) fn rooms_of<W: Wiring, P: Drop, T: Drop>(
+    alloc: Global,
+    plan: &Plan,
+) -> Result<RoomsOf<W, P, T>, Memory>
     requires { IsSound plan.now }
     ensures { IfOk result (HasRooms plan.now) }
 {
     let customers = plan.customers.len();
-    let gathered = place_rooms::<Held>(alloc, plan)?;
+    let gathered = place_rooms(alloc, plan)?;
     let parts = part_rooms(alloc, customers)?;
     Ok(Rooms {
         workers: Vec::with_capacity(alloc, customers)?,

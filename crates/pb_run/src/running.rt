@@ -16,7 +16,7 @@ use crate::build::{Built, places_of};
 use crate::ended::{Causes, Ended, ended_by};
 use crate::fault::{RunCause, RunFault, cause_of};
 use crate::meet::{meet_accesses, meet_links};
-use crate::outside::{Held, LaneTap, Parts, apart, attended};
+use crate::outside::{Held, Parts, apart, attended};
 use crate::record::{access_lists, bridge_lists, lane_lists};
 use crate::rooms::{GatheredPlaces, RoomsOf, rooms_of};
 use crate::settled::whether_settled;
@@ -27,6 +27,7 @@ use pb_history::Tallies;
 use pb_lan::{Limits, Plan, Record};
 use pb_port::Port;
 use pb_ring::Wiring;
+use pb_tap::Tap;
 use pb_threads::{Gate, Places, Worked, run_all};
 use pb_workers::{Access, BridgeWorker, CustomerWorker, LaneWorker, Last, Mode, has_drained};
 use std::alloc::Global;
@@ -37,11 +38,11 @@ use std::time::Clock;
 
 /// The result of a run.
 #[derive(Drop)]
-pub struct Ran {
+pub struct Ran<P = Held> {
     /// The counts of the steps of all places. Contracts see the record of these steps.
     pub counts: Tallies,
     /// The ports outside, in the plan's order.
-    pub ports: Vec<Held>,
+    pub ports: Vec<P>,
     /// The result of the newest poll of each port.
     pub last: Vec<Last>,
     /// The end of the run.
@@ -62,35 +63,35 @@ pub struct KeptRun {
 
 /// The result of a run with taps.
 #[derive(Drop)]
-pub struct TappedRun {
+pub struct TappedRun<P = Held, T = Held> {
     /// The result that each run has.
-    pub ran: Ran,
+    pub ran: Ran<P>,
     /// The taps of each lane, in the order of the lanes: two of each link, first that from `a` to `b`. The taps of one
     /// lane are in the order in which they were given.
-    pub taps: Vec<Vec<LaneTap>>,
+    pub taps: Vec<Vec<Tap<T>>>,
 }
 
 /// The result of a run, whether its places keep their steps and have taps or not.
 #[derive(Drop)]
-pub(crate) struct WholeRun {
-    pub ran: Ran,
+pub(crate) struct WholeRun<P, T> {
+    pub ran: Ran<P>,
     pub rec: Record,
-    pub taps: Vec<Vec<LaneTap>>,
+    pub taps: Vec<Vec<Tap<T>>>,
 }
 
 /// The counts and the record of the places that are back, and the taps of the lanes.
 #[derive(Drop)]
-struct Told {
+struct Told<T> {
     counts: Tallies,
     rec: Record,
-    taps: Vec<Vec<LaneTap>>,
+    taps: Vec<Vec<Tap<T>>>,
 }
 
-/// The places of a run over rings of this wiring.
-type PlacesOf<W> = Places<CustomerWorker<W, Held>, LaneWorker<W, Held>, BridgeWorker<W>>;
+/// The places of a run over rings of this wiring, with these ports outside and these of taps.
+type PlacesOf<W, P, T> = Places<CustomerWorker<W, P>, LaneWorker<W, T>, BridgeWorker<W>>;
 
 /// Returns the reasons for which the workers ended.
-fn causes_of<W: Wiring>(places: &PlacesOf<W>) -> Causes {
+fn causes_of<W: Wiring, P, T>(places: &PlacesOf<W, P, T>) -> Causes {
     let mut causes = Causes {
         memory: false,
         limit: false,
@@ -109,13 +110,13 @@ fn causes_of<W: Wiring>(places: &PlacesOf<W>) -> Causes {
 
 /// Returns the counts and the record of places that are back, after the ends of all rings have met, and the taps of the
 /// lanes. Allocates nothing.
-fn told_of<W: Wiring>(
+fn told_of<W: Wiring, T: Drop>(
     plan: &Plan,
     accesses: Vec<Access<W>>,
-    lanes: Vec<LaneWorker<W, Held>>,
+    lanes: Vec<LaneWorker<W, T>>,
     bridges: Vec<BridgeWorker<W>>,
-    rooms: GatheredPlaces<Held>,
-) -> Told
+    rooms: GatheredPlaces<T>,
+) -> Told<T>
     requires sound { IsSound plan.now }
     requires back { AreBack plan.now accesses.items lanes.items bridges.items }
     requires rooms { HasPlaceRooms plan.now rooms }
@@ -149,20 +150,26 @@ fn told_of<W: Wiring>(
 ///
 /// `Memory` if an allocation failed before the workers were started, `Spawn` if a worker could not be started. The
 /// ports come back unchanged.
-fn run_built<W: Wiring + Send, G: Gate, R: Threads + Wait + Clock + Sync>(
+fn run_built<
+    W: Wiring + Send,
+    P: Port + Send,
+    T: Port + Send,
+    G: Gate,
+    R: Threads + Wait + Clock + Sync,
+>(
     rt: &R,
     alloc: Global,
     plan: &Plan,
-    ports: Vec<Held>,
-    built: Built<W, Held>,
-    rooms: RoomsOf<W>,
+    ports: Vec<P>,
+    built: Built<W, T>,
+    rooms: RoomsOf<W, P, T>,
     gate: &G,
     limits: Limits,
-) -> Result<WholeRun, RunFault>
+) -> Result<WholeRun<P, T>, RunFault<P>>
     requires plan { IsSound plan.now × (vec_len ports ≡ length plan.now.customers) }
     requires built { IsBuilt plan.now built }
     requires rooms { HasRooms plan.now rooms }
-    ensures run { IfOk result (λ kept. IsRun (λ b. port_frames (Port-box b) b.value)
+    ensures run { IfOk result (λ kept. IsRun (port_frames P.Port)
         plan.now ports kept.ran.ports kept.ran.counts kept.ran.last.items kept.ran.ended kept.ran.settled) }
     ensures mode { IfOk result (λ kept. FollowsMode W.sets W.waits kept.ran.counts) }
     ensures wishes { IfOk result (λ kept. AreWished (G.gives gate.now) kept.ran.counts) }
@@ -212,20 +219,20 @@ fn run_built<W: Wiring + Send, G: Gate, R: Threads + Wait + Clock + Sync>(
 /// # Errors
 ///
 /// `Memory` if an allocation failed.
-fn tapped_places<W: Wiring>(
+fn tapped_places<W: Wiring, T: Drop>(
     alloc: Global,
     plan: &Plan,
     rings: Vec<Ring>,
-    taps: Vec<TapPort>,
+    taps: Vec<TapPort<T>>,
     mode: Mode,
-) -> Result<Built<W, Held>, Memory>
+) -> Result<Built<W, T>, Memory>
     requires mode { IsModeFor W.keeps W.sets W.waits mode }
     requires sound { IsSound plan.now }
     requires rings { AreRingsOf plan.now W.rings rings }
     ensures { IfOk result (IsBuilt plan.now) }
 {
     let taps = taps_of(alloc, 2 * plan.links.len(), taps)?;
-    places_of::<W, Held>(alloc, plan, rings, taps, mode)
+    places_of::<W, T>(alloc, plan, rings, taps, mode)
 }
 
 /// Builds the workers of a plan over rings, whose ends are known by number, and runs them.
@@ -234,21 +241,27 @@ fn tapped_places<W: Wiring>(
 ///
 /// `Memory` if an allocation failed before the workers were started, `Spawn` if a worker could not be started. The
 /// ports come back unchanged.
-fn run_wired<W: Wiring + Send, G: Gate, R: Threads + Wait + Clock + Sync>(
+fn run_wired<
+    W: Wiring + Send,
+    P: Port + Send,
+    T: Port + Send,
+    G: Gate,
+    R: Threads + Wait + Clock + Sync,
+>(
     rt: &R,
     alloc: Global,
     plan: &Plan,
-    ports: Vec<Held>,
+    ports: Vec<P>,
     rings: Vec<Ring>,
-    taps: Vec<TapPort>,
+    taps: Vec<TapPort<T>>,
     gate: &G,
     limits: Limits,
     mode: Mode,
-) -> Result<WholeRun, RunFault>
+) -> Result<WholeRun<P, T>, RunFault<P>>
     requires mode { IsModeFor W.keeps W.sets W.waits mode }
     requires plan { IsSound plan.now × (vec_len ports ≡ length plan.now.customers) }
     requires rings { AreRingsOf plan.now W.rings rings }
-    ensures run { IfOk result (λ kept. IsRun (λ b. port_frames (Port-box b) b.value)
+    ensures run { IfOk result (λ kept. IsRun (port_frames P.Port)
         plan.now ports kept.ran.ports kept.ran.counts kept.ran.last.items kept.ran.ended kept.ran.settled) }
     ensures mode { IfOk result (λ kept. FollowsMode W.sets W.waits kept.ran.counts) }
     ensures wishes { IfOk result (λ kept. AreWished (G.gives gate.now) kept.ran.counts) }
@@ -257,8 +270,8 @@ fn run_wired<W: Wiring + Send, G: Gate, R: Threads + Wait + Clock + Sync>(
         × (fault.ports.items ≡ ports.items)) }
 {
     let (Ok(built), Ok(rooms)) = (
-        tapped_places::<W>(alloc, plan, rings, taps, mode),
-        rooms_of::<W>(alloc, plan),
+        tapped_places::<W, T>(alloc, plan, rings, taps, mode),
+        rooms_of::<W, P, T>(alloc, plan),
     ) else {
         let cause = RunCause::Memory;
         return Err(RunFault { cause, ports });
@@ -271,18 +284,18 @@ fn run_wired<W: Wiring + Send, G: Gate, R: Threads + Wait + Clock + Sync>(
 /// # Errors
 ///
 /// Those of [`run`](crate::run).
-pub(crate) fn run_places<G: Gate, R: Threads + Wait + Clock + Sync>(
+pub(crate) fn run_places<P: Port + Send, T: Port + Send, G: Gate, R: Threads + Wait + Clock + Sync>(
     rt: &R,
     alloc: Global,
     plan: &Plan,
-    ports: Vec<Held>,
-    taps: Vec<TapPort>,
+    ports: Vec<P>,
+    taps: Vec<TapPort<T>>,
     gate: &G,
     limits: Limits,
     mode: Mode,
-) -> Result<WholeRun, RunFault>
+) -> Result<WholeRun<P, T>, RunFault<P>>
     requires { IsSound plan.now }
-    ensures run { IfOk result (λ kept. IsRun (λ b. port_frames (Port-box b) b.value)
+    ensures run { IfOk result (λ kept. IsRun (port_frames P.Port)
         plan.now ports kept.ran.ports kept.ran.counts kept.ran.last.items kept.ran.ended kept.ran.settled) }
     ensures mode { IfOk result (λ kept. FollowsMode mode.sets mode.waits kept.ran.counts) }
     ensures wishes { IfOk result (λ kept. AreWished (G.gives gate.now) kept.ran.counts) }
@@ -297,5 +310,5 @@ pub(crate) fn run_places<G: Gate, R: Threads + Wait + Clock + Sync>(
         let cause = RunCause::Memory;
         return Err(RunFault { cause, ports });
     };
-    run_wired::<Brand, G, R>(rt, alloc, plan, ports, rings, taps, gate, limits, mode)
+    run_wired::<Brand, P, T, G, R>(rt, alloc, plan, ports, rings, taps, gate, limits, mode)
 }

@@ -84,7 +84,7 @@ pub fn run<G: Gate, R: Threads + Wait + Clock + Sync>(
         waits: is_lossless,
         ..Mode::COUNTED
     };
-    let taps = Vec::new(alloc);
+    let taps: Vec<TapPort> = Vec::new(alloc);
     let WholeRun { ran, .. } = run_places(rt, alloc, plan, ports, taps, gate, limits, mode)?;
     Ok(ran)
 }
@@ -122,13 +122,13 @@ pub fn run_set<G: Gate, R: Threads + Wait + Clock + Sync>(
         waits: is_lossless,
         ..Mode::SET
     };
-    let taps = Vec::new(alloc);
+    let taps: Vec<TapPort> = Vec::new(alloc);
     let WholeRun { ran, .. } = run_places(rt, alloc, plan, ports, taps, gate, limits, mode)?;
     Ok(ran)
 }
 
 /// Runs a sound plan as [`run_set`] does. Meanwhile the taps record the frames that cross their links, S-tags and BPDUs
-/// included.
+/// included. The ports, and those of taps, may be of any type that workers may own.
 ///
 /// Each tap that comes back at a lane was given the frames that the lane put, in order, and no others of the lane. The
 /// fields of its tape say which of them its port took. No clause says at which lanes the taps come back.
@@ -136,18 +136,18 @@ pub fn run_set<G: Gate, R: Threads + Wait + Clock + Sync>(
 /// # Errors
 ///
 /// Those of [`run`]. The ports of the taps are dropped then.
-pub fn run_tapped<G: Gate, R: Threads + Wait + Clock + Sync>(
+pub fn run_tapped<P: Port + Send, T: Port + Send, G: Gate, R: Threads + Wait + Clock + Sync>(
     rt: &R,
     alloc: Global,
     plan: &Plan,
-    ports: Vec<Held>,
-    taps: Vec<TapPort>,
+    ports: Vec<P>,
+    taps: Vec<TapPort<T>>,
     gate: &G,
     limits: Limits,
     is_lossless: bool,
-) -> Result<TappedRun, RunFault>
+) -> Result<TappedRun<P, T>, RunFault<P>>
     requires { IsSound plan.now }
-    ensures run { IfOk result (λ r. IsRun (λ b. port_frames (Port-box b) b.value)
+    ensures run { IfOk result (λ r. IsRun (port_frames P.Port)
         plan.now ports r.ran.ports r.ran.counts r.ran.last.items r.ran.ended r.ran.settled) }
     ensures wishes { IfOk result (λ r. AreWished (G.gives gate.now) r.ran.counts) }
     ensures lossless { IfOk result (λ r. is_lossless ≡ true → NoFullQueueRefuses r.ran.counts) }
@@ -190,7 +190,7 @@ pub fn run_kept<G: Gate, R: Threads + Wait + Clock + Sync>(
         waits: is_lossless,
         ..Mode::KEPT
     };
-    let taps = Vec::new(alloc);
+    let taps: Vec<TapPort> = Vec::new(alloc);
     let WholeRun { ran, rec, .. } = run_places(rt, alloc, plan, ports, taps, gate, limits, mode)?;
     Ok(KeptRun { ran, rec })
 }

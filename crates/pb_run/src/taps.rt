@@ -4,7 +4,7 @@ ghost use Rattle.std.specs.Prelude.{◌≡◌, [], IfOk};
 ghost use Rattle.pb_tap.specs.Taps.{own_of};
 ghost use Rattle.pb_workers.specs.Recording.{AreRecorded};
 
-use crate::outside::{Held, LaneTap};
+use crate::outside::Held;
 use pb_frame::Memory;
 use pb_tap::{Feeder, Recorder, Tap, Tape};
 use rtrb::RingBuffer;
@@ -27,13 +27,13 @@ pub enum TapDirection {
 
 /// A port that records the frames that cross a link.
 #[derive(Drop)]
-pub struct TapPort {
+pub struct TapPort<T = Held> {
     /// The link, by its number in the plan from 1.
     pub link: u8,
     /// The directions that are recorded.
     pub direction: TapDirection,
     /// The port that writes the frames.
-    pub port: Held,
+    pub port: T,
 }
 
 /// The taps of a lane, which have recorded nothing.
@@ -81,17 +81,17 @@ fn put_tap<P: Drop>(
 }
 
 /// Returns the tap of a tape over a port, for one direction.
-fn tape_over(port: Held) -> LaneTap
+fn tape_over<T>(port: T) -> Tap<T>
     ensures { own_of result.recorder ≡ [] }
 {
     Tap::new(Recorder::Tape(Tape::new(port, None)))
 }
 
 /// Appends a tap to the taps of the lanes of its link.
-fn add_tap(
+fn add_tap<T: Drop>(
     alloc: Global,
-    lanes: &mut VecDeque<LaneTaps<Held>>,
-    tap: TapPort,
+    lanes: &mut VecDeque<LaneTaps<T>>,
+    tap: TapPort<T>,
 ) -> Result<(), Memory> {
     let TapPort {
         link,
@@ -116,11 +116,11 @@ fn add_tap(
 /// # Errors
 ///
 /// `Memory` if an allocation failed.
-pub(crate) fn taps_of(
+pub(crate) fn taps_of<T: Drop>(
     alloc: Global,
     count: usize,
-    taps: Vec<TapPort>,
-) -> Result<VecDeque<LaneTaps<Held>>, Memory> {
+    taps: Vec<TapPort<T>>,
+) -> Result<VecDeque<LaneTaps<T>>, Memory> {
     let mut lanes = VecDeque::new(alloc);
     if taps.is_empty() {
         return Ok(lanes);

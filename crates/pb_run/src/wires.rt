@@ -5,7 +5,7 @@ ghost use Rattle.rtrb.specs.Ring.{sent, received};
 ghost use Rattle.pb_lan.specs.Plans.{IsSound};
 ghost use Rattle.pb_run.specs.Wires.{ring_into, ring_out, AreNew, AreNamed, IsThere, HasInner, HasOuter};
 
-use pb_frame::Memory;
+use pb_frame::{Memory, index_of};
 use pb_lan::{Item, Plan};
 use pb_ring::{Inlet, Outlet, Wiring};
 use pb_workers::is_used;
@@ -20,7 +20,7 @@ pub(crate) fn ring_into(bridge: u8, port: u8) -> usize
     requires { (0 < bridge) × (0 < port) }
     ensures { result ≡ ring_into bridge port }
 {
-    32 * (usize::from(bridge) - 1) + 2 * (usize::from(port) - 1)
+    32 * index_of(bridge) + 2 * index_of(port)
 }
 
 /// Returns the number of the ring onto which a bridge sends at a local port.

@@ -11,7 +11,8 @@ use crate::unwritten::put_unwritten;
 use pb_frame::Memory;
 use pb_history::Tallies;
 use pb_lan::Plan;
-use pb_run::{Ended, Held};
+use pb_port::Port;
+use pb_run::Ended;
 use std::alloc::Global;
 
 /// Appends the line that the bridges have not converged, if they have not.
@@ -35,10 +36,10 @@ fn put_unsettled(out: &mut String, settled: &Result<Option<bool>, Memory>) -> Re
 /// # Errors
 ///
 /// `Memory` if an allocation failed.
-pub fn lost_of(
+pub fn lost_of<P: Port>(
     alloc: Global,
     plan: &Plan,
-    ports: &[Held],
+    ports: &[P],
     counts: &Tallies,
     settled: &Result<Option<bool>, Memory>,
 ) -> Result<String, Memory>
@@ -46,7 +47,7 @@ pub fn lost_of(
     requires ports { length ports.now ≡ length plan.now.customers }
     requires lists { length counts.now.customers ≡ length plan.now.customers }
     ensures { IfOk result (λ text. string_bytes text
-        ≡ lost_text plan.now counts.now settled.now (map (λ b. waiting b) ports.now)) }
+        ≡ lost_text plan.now counts.now settled.now (map P.waiting ports.now)) }
 {
     let mut out = String::new(alloc);
     let customers = plan.customers.as_slice();

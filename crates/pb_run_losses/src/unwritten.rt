@@ -7,7 +7,6 @@ use pb_frame::Memory;
 use pb_history::Tally;
 use pb_lan::CustomerPlan;
 use pb_port::Port;
-use pb_run::Held;
 
 /// Appends the line for the unwritten frames of a customer port. A count of 0 has no line.
 fn put_count(out: &mut String, name: &str, count: u64) -> Result<(), Memory>
@@ -27,16 +26,16 @@ fn put_count(out: &mut String, name: &str, count: u64) -> Result<(), Memory>
 /// # Errors
 ///
 /// `Memory` if an allocation failed.
-pub(crate) fn put_unwritten(
+pub(crate) fn put_unwritten<P: Port>(
     out: &mut String,
     customers: &[CustomerPlan],
-    ports: &[Held],
+    ports: &[P],
     tallies: &[Tally],
 ) -> Result<(), Memory>
     requires ports { length ports.now ≡ length customers.now }
     requires tallies { length tallies.now ≡ length customers.now }
     ensures { OnOk result (string_bytes out.new ≡ string_bytes out.old
-        ++ unwritten_lines customers.now (map (λ b. waiting b) ports.now) tallies.now) }
+        ++ unwritten_lines customers.now (map P.waiting ports.now) tallies.now) }
 {
     for (index, customer) in customers.iter().enumerate() {
         let unsent = ports[index].unsent().len() as u64;

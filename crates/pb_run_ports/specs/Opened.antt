@@ -69,6 +69,18 @@ shown (bound held remote network) = record nothing { tunnel = Some (remote, netw
 abbrev pub script_in : PortSpec → Option (List (List ℕ))
 script_in spec = (asked spec).frames
 
+-- the octets of the file that a port reads, if they are known
+abbrev pub octets_in : (List ℕ → Option (List ℕ)) → PortSpec → Option (List ℕ)
+octets_in holds (Capture read pace write stamp) = holds read
+octets_in holds (Replay read pace) = holds read
+octets_in holds other = None
+
+-- the octets of its file that an opened port has not read yet, if they are known
+abbrev pub octets_at : {I O S U : Type 0} → (I → Option (List ℕ)) → Opened I O S U → Option (List ℕ)
+octets_at unread (files input output read pace write stamp) = unread input
+octets_at unread (input_alone input read pace) = unread input
+octets_at unread other = None
+
 -- the first operations on a port: its file to read is opened, or its socket is made, connected to or bound
 abbrev pub entering : PortSpec → List Deed
 entering (Memory frames) = []

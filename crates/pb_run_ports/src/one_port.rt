@@ -4,7 +4,7 @@ ghost use Rattle.std.specs.Prelude.{◌≡◌, ◌∷◌, [], Some, IfOk, IfErr,
 ghost use Rattle.pb_run_ports.specs.Deeds.{Adds};
 ghost use Rattle.pb_run_ports.specs.OpenFaults.{IsUnopened, IsUnemptied};
 ghost use Rattle.pb_run_ports.specs.declared.deed.Deed.TheVariants.{Bind as binds};
-ghost use Rattle.pb_run_ports.specs.Opened.{asked, emptying, entering, opening, shown};
+ghost use Rattle.pb_run_ports.specs.Opened.{asked, emptying, entering, octets_at, octets_in, opening, shown};
 ghost use Rattle.pb_service.specs.declared.port_spec.LengthField.{LengthField};
 
 use crate::open_fault::{OpenFault, Verb, unemptied, unopened};
@@ -30,6 +30,7 @@ fn open_socket<O: Openings>(
 ) -> Result<O::Stream, OpenFault>
     ensures ok { OnOk result ((framing : LengthField) → Adds (O.done opener.old) (O.done opener.new)
         (entering (PortSpec.Socket path listens stays framing))) }
+    ensures same { O.holds opener.new ≡ O.holds opener.old }
     ensures err { IfErr result (λ e. IsUnopened e × (O.done opener.new ≡ O.done opener.old)) }
 {
     if listens {
@@ -67,6 +68,9 @@ fn open_datagrams<O: Openings>(
 ) -> Result<Opened<O::Input, (), O::Stream, O::Datagrams>, OpenFault>
     ensures ok { IfOk result (λ port. Adds (O.done opener.old) (O.done opener.new) (binds local ∷ [])
         × (shown port ≡ asked (PortSpec.Udp local remote network))) }
+    ensures octets { IfOk result (λ port. octets_at O.unread port
+        ≡ octets_in (O.holds opener.old) (PortSpec.Udp local remote network)) }
+    ensures same { O.holds opener.new ≡ O.holds opener.old }
     ensures err { IfErr result (λ e. IsUnopened e × (O.done opener.new ≡ O.done opener.old)) }
 {
     match opener.bind(local) {
@@ -95,6 +99,9 @@ fn open_capture_in<O: Openings>(
     ensures ok { IfOk result (λ port. Adds (O.done opener.old) (O.done opener.new)
         (entering (PortSpec.Capture read pace write stamp))
         × (shown port ≡ asked (PortSpec.Capture read pace write stamp))) }
+    ensures octets { IfOk result (λ port. octets_at O.unread port
+        ≡ octets_in (O.holds opener.old) (PortSpec.Capture read pace write stamp)) }
+    ensures same { O.holds opener.new ≡ O.holds opener.old }
     ensures err { IfErr result (λ e. IsUnopened e × (O.done opener.new ≡ O.done opener.old)) }
 {
     match opener.open_read(read.as_str()) {
@@ -123,6 +130,8 @@ pub(crate) fn open_in<O: Openings>(
 ) -> Result<Opened<O::Input, (), O::Stream, O::Datagrams>, OpenFault>
     ensures ok { IfOk result (λ port. Adds (O.done opener.old) (O.done opener.new) (entering spec)
         × (shown port ≡ asked spec)) }
+    ensures octets { IfOk result (λ port. octets_at O.unread port ≡ octets_in (O.holds opener.old) spec) }
+    ensures same { O.holds opener.new ≡ O.holds opener.old }
     ensures err { IfErr result (λ e. IsUnopened e × (O.done opener.new ≡ O.done opener.old)) }
 {
     match spec {
@@ -179,6 +188,7 @@ fn open_capture_out<O: Openings>(
 ) -> Result<Opened<O::Input, O::Output, O::Stream, O::Datagrams>, OpenFault>
     ensures ok { IfOk result (λ port. Adds (O.done opener.old) (O.done opener.new) (opening (Some write))
         × (shown port ≡ asked (PortSpec.Capture read pace write stamp))) }
+    ensures octets { IfOk result (λ port. octets_at O.unread port ≡ O.unread input) }
     ensures err { IfErr result (λ e. IsUnopened e × (O.done opener.new ≡ O.done opener.old)) }
 {
     match opener.open_write(write.as_str()) {
@@ -206,6 +216,7 @@ pub(crate) fn open_out<O: Openings>(
 ) -> Result<Opened<O::Input, O::Output, O::Stream, O::Datagrams>, OpenFault>
     ensures ok { IfOk result (λ whole. Adds (O.done opener.old) (O.done opener.new) (opening (shown port).write)
         × (shown whole ≡ shown port)) }
+    ensures octets { IfOk result (λ whole. octets_at O.unread whole ≡ octets_at O.unread port) }
     ensures err { IfErr result (λ e. IsUnopened e × (O.done opener.new ≡ O.done opener.old)) }
 {
     match port {

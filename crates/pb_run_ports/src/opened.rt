@@ -6,7 +6,7 @@ ghost use Rattle.std.specs.List.{flat_map};
 ghost use Rattle.pb_run_ports.specs.Addresses.{Admits};
 ghost use Rattle.pb_run_ports.specs.Deeds.{Adds, HasBegun};
 ghost use Rattle.pb_run_ports.specs.OpenFaults.{IsUnopened, IsUnemptied};
-ghost use Rattle.pb_run_ports.specs.Opened.{asked, deeds_of, emptied, entering, shown, written};
+ghost use Rattle.pb_run_ports.specs.Opened.{asked, deeds_of, emptied, entering, octets_at, octets_in, shown, written};
 ghost use Rattle.pb_run_ports.specs.Opened.{HasStopped, StopsAt, StopsUnadmitted};
 ghost use Rattle.pb_run_ports.specs.Uses.{are_apart};
 
@@ -91,6 +91,8 @@ fn open_ins<O: Openings>(
 ) -> Result<Vec<Opened<O::Input, (), O::Stream, O::Datagrams>>, OpenFault>
     ensures ok { IfOk result (λ ports. Adds (O.done opener.old) (O.done opener.new) (flat_map entering specs.items)
         × (map shown ports.items ≡ map asked specs.items)) }
+    ensures octets { IfOk result (λ ports. map (octets_at O.unread) ports.items
+        ≡ map (octets_in (O.holds opener.old)) specs.items) }
     ensures err { IfErr result (λ e. IsUnopened e
         × HasBegun (O.done opener.old) (O.done opener.new) (flat_map entering specs.items)) }
 {
@@ -117,6 +119,7 @@ fn open_outs<O: Openings>(
     requires { whole.old.items ≡ [] }
     ensures ok { OnOk result (Adds (O.done opener.old) (O.done opener.new) (written (map shown ports.items))
         × (map shown whole.new.items ≡ map shown ports.items)) }
+    ensures octets { OnOk result (map (octets_at O.unread) whole.new.items ≡ map (octets_at O.unread) ports.items) }
     ensures err { IfErr result (λ e. IsUnopened e
         × HasBegun (O.done opener.old) (O.done opener.new) (written (map shown ports.items))) }
 {
@@ -152,6 +155,8 @@ fn open_all_outs<O: Openings>(
 ) -> Result<Vec<Opened<O::Input, O::Output, O::Stream, O::Datagrams>>, OpenFault>
     ensures ok { IfOk result (λ whole. Adds (O.done opener.old) (O.done opener.new) (written (map shown ports.items))
         × (map shown whole.items ≡ map shown ports.items)) }
+    ensures octets { IfOk result (λ whole. map (octets_at O.unread) whole.items
+        ≡ map (octets_at O.unread) ports.items) }
     ensures err { IfErr result (λ e. IsUnopened e
         × HasBegun (O.done opener.old) (O.done opener.new) (written (map shown ports.items))) }
 {
@@ -197,6 +202,8 @@ fn open_apart<O: Openings>(
 ) -> Result<Vec<Opened<O::Input, O::Output, O::Stream, O::Datagrams>>, OpenFault>
     ensures ok { IfOk result (λ ports. Adds (O.done opener.old) (O.done opener.new) (deeds_of specs.items)
         × (map shown ports.items ≡ map asked specs.items)) }
+    ensures octets { IfOk result (λ ports. map (octets_at O.unread) ports.items
+        ≡ map (octets_in (O.holds opener.old)) specs.items) }
     ensures err { IfErr result (λ e. HasStopped e (O.done opener.old) (O.done opener.new) specs.items) }
 {
     let ports = open_ins(alloc, opener, specs)?;
@@ -223,7 +230,8 @@ fn shared(alloc: Global, specs: &[PortSpec], clash: Clash) -> Result<SharedFile,
 ///
 /// First every file to read is opened, and every socket is made, connected to or bound, in the order of the plan. Then
 /// every file to write is opened: it keeps its contents, and is made if it is missing. When all are open, the files to
-/// write are emptied.
+/// write are emptied. If the octets of the files are known, those that a port has not read yet are the octets that its
+/// file had before.
 ///
 /// # Errors
 ///
@@ -248,6 +256,8 @@ pub fn open_all<O: Openings>(
 ) -> Result<Vec<Opened<O::Input, O::Output, O::Stream, O::Datagrams>>, OpenFault>
     ensures ok { IfOk result (λ ports. Adds (O.done opener.old) (O.done opener.new) (deeds_of specs.items)
         × (map shown ports.items ≡ map asked specs.items)) }
+    ensures octets { IfOk result (λ ports. map (octets_at O.unread) ports.items
+        ≡ map (octets_in (O.holds opener.old)) specs.items) }
     ensures admitted { MatchResult result (λ _. Admits allows_network specs.items)
         (λ e. StopsUnadmitted e allows_network specs.items) }
     ensures apart { OnOk result (IfSome (O.named opener.old) (λ name. are_apart name plan_path.now specs.items

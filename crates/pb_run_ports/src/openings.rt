@@ -34,6 +34,12 @@ pub trait Openings {
     /// The file that each path names, if this is known, or none for a file that may have several uses.
     ghost named: { Self → Option (List ℕ → Option (List ℕ)) } = { λ _. None };
 
+    /// The octets of the file at each path, if they are known.
+    ghost holds: { Self → List ℕ → Option (List ℕ) } = { λ _ _. None };
+
+    /// The octets of a file that were not read yet, if they are known.
+    ghost unread: { Self.Input → Option (List ℕ) } = { λ _. None };
+
     /// Returns a text that identifies the file at a path, whether it exists or not: the same text for all paths to the
     /// file. Returns `None` for a file that may have several uses at once.
     ///
@@ -50,6 +56,8 @@ pub trait Openings {
     /// The error of the system. Nothing was done then.
     fn open_read(&mut self, path: &str) -> io::Result<Self::Input>
         ensures ok { OnOk result (Adds (done self.old) (done self.new) (reads path.now ∷ [])) }
+        ensures octets { IfOk result (λ input. unread input ≡ holds self.old path.now) }
+        ensures same { holds self.new ≡ holds self.old }
         ensures err { OnErr result (done self.new ≡ done self.old) };
 
     /// Connects to a socket. If the port stays, its stream has the next peer after this one has left.
@@ -59,6 +67,7 @@ pub trait Openings {
     /// The error of the system. Nothing was done then.
     fn connect(&mut self, path: &str, stays: bool) -> io::Result<Self::Stream>
         ensures ok { OnOk result (Adds (done self.old) (done self.new) (connects path.now ∷ [])) }
+        ensures same { holds self.new ≡ holds self.old }
         ensures err { OnErr result (done self.new ≡ done self.old) };
 
     /// Makes a socket at which one peer may connect. If the port stays, the next one may after this one has left.
@@ -68,6 +77,7 @@ pub trait Openings {
     /// The error of the system. Nothing was done then.
     fn listen(&mut self, path: &str, stays: bool) -> io::Result<Self::Stream>
         ensures ok { OnOk result (Adds (done self.old) (done self.new) (listens path.now ∷ [])) }
+        ensures same { holds self.new ≡ holds self.old }
         ensures err { OnErr result (done self.new ≡ done self.old) };
 
     /// Binds a socket for datagrams to an address. It is not connected to a peer.
@@ -77,6 +87,7 @@ pub trait Openings {
     /// The error of the system. Nothing was done then.
     fn bind(&mut self, local: SocketAddr) -> io::Result<Self::Datagrams>
         ensures ok { OnOk result (Adds (done self.old) (done self.new) (binds local ∷ [])) }
+        ensures same { holds self.new ≡ holds self.old }
         ensures err { OnErr result (done self.new ≡ done self.old) };
 
     /// Opens a file for writing, and makes it if it is missing. Its contents stay.

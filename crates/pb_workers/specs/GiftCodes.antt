@@ -1,7 +1,7 @@
 -- What workers are given has codes: that of the tuple of its parts.
 use Rattle.std.specs.Prelude.{ℕ, List, refl}
 use Rattle.std.specs.Coded.{Coded, code_by, coded×, coded_list, coded_ℕ}
-use Rattle.std.specs.declared.snapshot.Snapshot.{Snapshot}
+use Rattle.pb_workers.specs.declared.was.Was.{Was}
 use Rattle.pb_lan.specs.declared.plan.Plan.{Plan}
 use Rattle.pb_threads.proofs.Codes.{coded_plan}
 use Rattle.pb_workers.specs.declared.gift.BridgeGift.{BridgeGift}
@@ -35,13 +35,13 @@ lane_gift =
     lane_of
     (λ _. refl)
 
-abbrev snapshot_of : {P : Type 0} → P → Snapshot P
-snapshot_of port = record { marker = record {}; value = port }
+abbrev was_of : {P : Type 0} → P → Was P
+was_of port = record { of = record {}; value = port }
 
 abbrev customer_of : {P : Type 0} → P × (ℕ × (ℕ × (ℕ × ℕ))) → CustomerGift P
 customer_of (was, (book, (place, (feed, drain)))) =
     record {
-      was = snapshot_of was;
+      was = was_of was;
       book = book;
       access = record { place = place; feed = feed; drain = drain };
     }

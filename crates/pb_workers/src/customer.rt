@@ -10,11 +10,11 @@ ghost use Rattle.pb_workers.specs.Workers.{IsPortKept, IsSameCustomer};
 use crate::access::{Access, Last};
 use crate::gift::CustomerGift;
 use crate::refusal::{Refusal, Taken, turn};
+use crate::was::Was;
 use pb_lan::Place;
 use pb_port::{Offered, Polled, Port, PortFault, Pumped};
 use pb_ring::Wiring;
 use pb_threads::{Finish, Moment, PortView, Turn, TurnStatus, Work};
-use std::snapshot::Snapshot;
 
 /// The number of turns after which the port writes at the latest, if something waits in it. It writes sooner if nothing
 /// else is to do, or if it is full. Frames that leave in close order are written together.
@@ -30,7 +30,7 @@ pub struct CustomerWorker<W: Wiring, P> {
     /// The reason why the worker ended, once it has.
     pub finish: Option<Finish>,
     /// The port as the worker was given it.
-    pub was: Snapshot<P>,
+    pub was: Was<P>,
     /// The number of turns in which the port has not written.
     pub held: u8,
 }
@@ -41,7 +41,7 @@ impl<W: Wiring, P> CustomerWorker<W, P> {
         ensures port { (result.port ≡ port) × (result.was.value ≡ port) }
         ensures access { result.access ≡ access }
     {
-        let was = Snapshot::of(&port);
+        let was = Was::of(&port);
         CustomerWorker {
             port,
             access,

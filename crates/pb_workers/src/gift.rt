@@ -1,8 +1,8 @@
 //! What workers are given. Contracts alone use these types: no value of them is ever made.
 
+use crate::was::Was;
 use pb_lan::Plan;
 use std::collections::LinkedList;
-use std::snapshot::Snapshot;
 
 /// What the worker of a bridge is given.
 pub struct BridgeGift {
@@ -43,7 +43,7 @@ pub struct AccessGift {
 /// What the worker of a customer port is given.
 pub struct CustomerGift<P> {
     /// The port outside.
-    pub was: Snapshot<P>,
+    pub was: Was<P>,
     /// The number in its book.
     pub book: u8,
     /// What it is given except for the port outside.

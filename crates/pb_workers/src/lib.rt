@@ -21,6 +21,7 @@ mod room;
 mod stations;
 mod used;
 mod view;
+mod was;
 
 pub use access::{Access, Book, Last};
 pub use bridge::BridgeWorker;
@@ -32,3 +33,4 @@ pub use mode::Mode;
 pub use pb_frame::Memory;
 pub use pb_threads::{PortView, StationView, Wish};
 pub use used::is_used;
+pub use was::Was;

@@ -10,7 +10,7 @@ use super::generated::{Dice, plan_of, script_of};
 use super::plans::LOSSY;
 use bytes::Bytes;
 use pb_cmd_run::write_report;
-use pb_fakes::plans::{LOSSES, METRO, PAIR};
+use pb_fakes::plans::{E_LAN, E_LINE, LOSSES, METRO, PAIR, PARALLEL, PLAN_FILE, TWO_BRIDGES};
 use pb_frame::Memory;
 use pb_history::Tallies;
 use pb_lan::{Limits, Plan, plan_is_sound};
@@ -201,10 +201,16 @@ fn file_runs_alike<R: Threads + Wait + Clock + Sync>(
 
 /// Shows that a run of an example has the same report and the same frames at its ports if its steps are kept and if
 /// they are counted. A link that loses the second frame has one sender, so that it is the same frame in both runs.
+/// Plans with clocks or peers are left out, since time decides the steps of their runs.
 #[test]
 fn examples_run_alike_kept_and_counted(rt: HostRuntime) -> Result<(), Fail> {
     for (file, senders) in [
         (PAIR, 2usize),
+        (TWO_BRIDGES, 3),
+        (E_LINE, 2),
+        (E_LAN, 4),
+        (PARALLEL, 4),
+        (PLAN_FILE, 4),
         (METRO, 7),
         (PLAN, 7),
         (LOSSES, 1),

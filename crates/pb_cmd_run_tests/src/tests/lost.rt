@@ -10,6 +10,7 @@ use pb_lan::{
     BridgePlan, Item, NoRoom, Outcome, Plan, PortSet, Queues, Record, Refusals, Spanning, Step,
     plan_is_sound,
 };
+use pb_run::Held;
 use std::alloc::Global;
 use std::test::Fail;
 
@@ -116,7 +117,7 @@ fn is_told(alloc: Global, (times, settled, wanted): Lost) -> Result<bool, Memory
     if !plan_is_sound(&plan) {
         return Ok(false);
     }
-    let lost = lost_of(alloc, &plan, &[], &counts, &settled)?;
+    let lost = lost_of::<Held>(alloc, &plan, &[], &counts, &settled)?;
     Ok(lost.as_str() == wanted)
 }
 

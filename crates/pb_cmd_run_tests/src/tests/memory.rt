@@ -7,6 +7,7 @@ use pb_cmd_run::write_report;
 use pb_frame::{Memory, Seq};
 use pb_history::Tallies;
 use pb_lan::{Plan, Queues, Spanning, plan_is_sound};
+use pb_port::MemoryPort;
 use pb_run::{Ended, Ran};
 use std::alloc::Global;
 
@@ -38,7 +39,7 @@ fn want_of_memory_is_told_last(rt: HostRuntime) {
     let alloc = rt.alloc();
     let plan = nothing(alloc);
     assert!(rt; plan_is_sound(&plan));
-    let ran = Ran {
+    let ran: Ran<MemoryPort> = Ran {
         counts: no_steps(alloc),
         ports: Vec::new(alloc),
         last: Vec::new(alloc),

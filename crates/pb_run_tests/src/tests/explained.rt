@@ -64,9 +64,8 @@ pub(super) fn run_recorded<G: Gate, R: Threads + Wait + Clock + Sync>(
     ensures lossless { IfOk result (λ kept. is_lossless ≡ true → NoFullQueueRefuses kept.rec) }
     ensures counts { IfOk result (λ kept. kept.ran.counts ≡ kept.rec) }
     ensures count { IfOk result (λ kept. vec_len ports ≡ length plan.now.customers) }
-    ensures cause { IfErr result (λ fault. (fault.cause ≡ RunCause.PortCount)
-        ↔ (vec_len ports ≡ length plan.now.customers → ⊥)) }
-    ensures unpolled { IfErr result (λ fault. fault.ports.items ≡ ports.items) }
+    ensures refused { IfErr result (λ fault. (fault.ports.items ≡ ports.items)
+        × ((fault.cause ≡ RunCause.PortCount) ↔ (vec_len ports ≡ length plan.now.customers → ⊥))) }
 {
     run_kept(rt, alloc, plan, ports, gate, limits, is_lossless)
 }

@@ -1,8 +1,8 @@
 use Rattle.std.proofs.Common.{map}
-use Rattle.pb_cmd_run.specs.Unsent.{HaveSent}
+use Rattle.pb_workers.specs.Ports.{port_frames}
+use Rattle.pb_cmd_run.specs.Unsent.{HaveGoneOn}
 use Rattle.pb_cmd_run.proofs.linger.try_all.Given as goal
 
 abbrev pub invariant-loop-index : goal.invariant-loop-index
 invariant-loop-index g l =
-    HaveSent (map (λ b. (goal.Port-dyn g (b.vtable, b.value)).waiting b.value) l.initial.ports)
-    (map (λ b. (goal.Port-dyn g (b.vtable, b.value)).waiting b.value) l.ports)
+    HaveGoneOn (map (port_frames g.P.Port) l.initial.ports) (map (port_frames g.P.Port) l.ports)

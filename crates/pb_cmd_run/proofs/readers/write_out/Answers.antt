@@ -1,4 +1,4 @@
-use Rattle.pb_cmd_run.proofs.UnsentLemmas.{have_on}
+use Rattle.pb_cmd_run.proofs.UnsentLemmas.{have_none, have_on}
 use Rattle.pb_cmd_run.proofs.readers.write_out.Goals as goal
 
 pub returns-in-Over : goal.returns-in-Over
@@ -9,3 +9,6 @@ loop-preserved g c = have_on c.loop.invariant c.try_files-ported.ensures
 
 pub returns-then-eq : goal.returns-then-eq
 returns-then-eq g c = have_on c.loop.invariant c.try_files-ported.ensures
+
+pub loop-init : goal.loop-init
+loop-init g c = have_none _

@@ -18,7 +18,7 @@ meet_customer-requires g c =
     (c.index-as_slice-place.is ∙ ap (λ xs. get_or xs c.args.place customer) c.as_slice.ensures) in
     let stands = customer_stands c.args.plan.now c.args.place customer c.requires.sound at in
     let rings = bridge_rings _ _ c.args.bridges.now.items customer.bridge customer.port _ _ c.requires.bridges
-    stands.bridge stands.port c.from.ensures c.index_mut-bridge.ensures.value in
+    stands.bridge stands.port c.index_of.ensures c.index_mut-bridge.ensures.value in
     let count = length-map c.index_mut-bridge.result.now.ins.ends.items (λ i. i.number) in
     let gift = gift_is _ c.args.accesses.now.items c.args.place c.index_mut.result.now
     (access_gift (c.args.place + 1) customer) (c.requires.accesses.each c.args.place customer c.requires.place at)
@@ -44,17 +44,17 @@ returns-clause-meets g c = λ planned there.
     let stands = customer_stands c.args.plan.now c.args.place customer c.requires.sound at in
     let given = c.requires.accesses.each c.args.place customer c.requires.place at in
     let bridge = bridge_here _ _ c.args.bridges.now.items customer.bridge _ _ c.requires.bridges stands.bridge
-    c.from.ensures c.index_mut-bridge.ensures.value in
+    c.index_of.ensures c.index_mut-bridge.ensures.value in
     let access = thing_is _ c.args.accesses.now.items c.args.place (access_gift (c.args.place + 1) customer)
     c.index_mut.result.now given c.index_mut.ensures.value in
-    let number : customer.bridge ≡ suc (c.from.result - 1) = omega (arith, c.from.ensures, stands.bridge.0) in
+    let number : customer.bridge ≡ suc c.index_of.result = omega (arith, c.index_of.ensures, stands.bridge.0) in
     let place : c.args.place + 1 ≡ suc c.args.place = omega arith in
     customer_meets _ _ customer planned (Some-injective (sym at ∙ there))
     (record {
       into = begins_there (received customer.port) fed _ _ c.args.bridges.now.items c.args.accesses.now.items
-          (c.from.result - 1) c.args.place customer.bridge (c.args.place + 1)
+          c.index_of.result c.args.place customer.bridge (c.args.place + 1)
           c.index_mut-bridge.result.now c.index_mut.result.now bridge access number place c.meet_customer.ensures.into;
       out = begins_there delivered (transmitted customer.port) _ _ c.args.accesses.now.items c.args.bridges.now.items
-          c.args.place (c.from.result - 1) (c.args.place + 1) customer.bridge
+          c.args.place c.index_of.result (c.args.place + 1) customer.bridge
           c.index_mut.result.now c.index_mut-bridge.result.now access bridge place number c.meet_customer.ensures.out;
     })

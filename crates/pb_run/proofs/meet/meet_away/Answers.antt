@@ -11,7 +11,7 @@ pub meet_lane_away-requires-clause-port : goal.meet_lane_away-requires-clause-po
 meet_lane_away-requires-clause-port g c =
     let end = c.requires.end in
     let rings = bridge_rings _ _ c.args.bridges.now.items c.args.from.now.bridge c.args.from.now.port _ _
-    c.requires.bridges end.bridge end.port c.from.ensures c.index_mut-bridge.ensures.value in (
+    c.requires.bridges end.bridge end.port c.index_of.ensures c.index_mut-bridge.ensures.value in (
       omega (arith, end.port.0),
       omega
           (arith, end.port.1, rings.2, length-map c.index_mut-bridge.result.now.ins.ends.items (λ i. i.number)),
@@ -21,7 +21,7 @@ pub meet_lane_away-requires-clause-ring : goal.meet_lane_away-requires-clause-ri
 meet_lane_away-requires-clause-ring g c =
     let end = c.requires.end in
     let rings = bridge_rings _ _ c.args.bridges.now.items c.args.from.now.bridge c.args.from.now.port _ _
-    c.requires.bridges end.bridge end.port c.from.ensures c.index_mut-bridge.ensures.value in
+    c.requires.bridges end.bridge end.port c.index_of.ensures c.index_mut-bridge.ensures.value in
     let gift = gift_is _ c.args.lanes.now.items c.args.place c.index_mut.result.now _ c.requires.lane.3
     c.index_mut.ensures.value in
     rings.1 ∙ sym (ap (λ (z : LaneGift). z.from) gift)
@@ -39,9 +39,9 @@ returns-clause-onto g c =
     let lane = thing_is _ c.args.lanes.now.items c.args.place _ c.index_mut.result.now c.requires.lane.3
     c.index_mut.ensures.value in
     let bridge = bridge_here _ _ c.args.bridges.now.items c.args.from.now.bridge _ _ c.requires.bridges end.bridge
-    c.from.ensures c.index_mut-bridge.ensures.value in
+    c.index_of.ensures c.index_mut-bridge.ensures.value in
     begins_there taken (transmitted c.args.from.now.port) _ _ c.args.lanes.now.items c.args.bridges.now.items
-    c.args.place (c.from.result - 1)
+    c.args.place c.index_of.result
     (c.args.place + 1) c.args.from.now.bridge c.index_mut.result.now c.index_mut-bridge.result.now lane bridge
     (omega arith)
-    (omega (arith, c.from.ensures, end.bridge.0)) c.meet_lane_away.ensures.onto
+    (omega (arith, c.index_of.ensures, end.bridge.0)) c.meet_lane_away.ensures.onto

@@ -11,7 +11,7 @@ pub meet_lane_here-requires-clause-port : goal.meet_lane_here-requires-clause-po
 meet_lane_here-requires-clause-port g c =
     let end = c.requires.end in
     let rings = bridge_rings _ _ c.args.bridges.now.items c.args.to.now.bridge c.args.to.now.port _ _
-    c.requires.bridges end.bridge end.port c.from.ensures c.index_mut-bridge.ensures.value in (
+    c.requires.bridges end.bridge end.port c.index_of.ensures c.index_mut-bridge.ensures.value in (
       omega (arith, end.port.0),
       omega
           (arith, end.port.1, rings.2, length-map c.index_mut-bridge.result.now.ins.ends.items (λ i. i.number)),
@@ -21,7 +21,7 @@ pub meet_lane_here-requires-clause-ring : goal.meet_lane_here-requires-clause-ri
 meet_lane_here-requires-clause-ring g c =
     let end = c.requires.end in
     let rings = bridge_rings _ _ c.args.bridges.now.items c.args.to.now.bridge c.args.to.now.port _ _
-    c.requires.bridges end.bridge end.port c.from.ensures c.index_mut-bridge.ensures.value in
+    c.requires.bridges end.bridge end.port c.index_of.ensures c.index_mut-bridge.ensures.value in
     let gift = gift_is _ c.args.lanes.now.items c.args.place c.index_mut.result.now _ c.requires.lane.3
     c.index_mut.ensures.value in
     rings.0 ∙ sym (ap (λ (z : LaneGift). z.to) gift)
@@ -39,8 +39,8 @@ returns-clause-off g c =
     let lane = thing_is _ c.args.lanes.now.items c.args.place _ c.index_mut.result.now c.requires.lane.3
     c.index_mut.ensures.value in
     let bridge = bridge_here _ _ c.args.bridges.now.items c.args.to.now.bridge _ _ c.requires.bridges end.bridge
-    c.from.ensures c.index_mut-bridge.ensures.value in
+    c.index_of.ensures c.index_mut-bridge.ensures.value in
     begins_there (received c.args.to.now.port) put _ _ c.args.bridges.now.items c.args.lanes.now.items
-    (c.from.result - 1) c.args.place
+    c.index_of.result c.args.place
     c.args.to.now.bridge (c.args.place + 1) c.index_mut-bridge.result.now c.index_mut.result.now bridge lane
-    (omega (arith, c.from.ensures, end.bridge.0)) (omega arith) c.meet_lane_here.ensures.off
+    (omega (arith, c.index_of.ensures, end.bridge.0)) (omega arith) c.meet_lane_here.ensures.off

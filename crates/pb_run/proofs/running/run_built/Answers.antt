@@ -1,9 +1,10 @@
-use Rattle.std.proofs.Common.{List, ap, length, refl, subst, sym, arith, rules}
+use Rattle.std.proofs.Common.{List, ◌∙◌, ap, length, map, refl, subst, sym, arith}
 use Rattle.pb_lan.specs.Records.{steps_of}
 use Rattle.pb_lan.specs.declared.step.Place.TheVariants.{Bridge}
 use Rattle.pb_lan.specs.declared.step.Step.{Step}
 use Rattle.pb_run.proofs.Kept.{as_many, accesses_back, run_kept}
 use Rattle.pb_run.proofs.Lawful.{all_wished, tells_ended}
+use Rattle.pb_run.proofs.Values.{on_value}
 use Rattle.pb_run.specs.Gifts.{given_bridge}
 use Rattle.pb_threads.specs.Wishes.{AreGiven}
 use Rattle.pb_workers.specs.Settings.{settings}
@@ -51,7 +52,9 @@ returns-clause-run g c =
           c.as_slice-2.result.now c.has_drained.result
           c.ended_by-ended.result c.ended_by-ended.ensures c.has_drained.ensures c.as_slice-2.ensures.value
           c.requires.plan.0 told.steps.lawful;
-      settled = search rules;
+      settled = on_value c.whether_settled-settled.result c.whether_settled-settled.ensures
+          (λ answer tells. tells c.told_of-counts.result.counts
+          (told.bridges ∙ ap (map (λ b. b.bridge.steps)) (sym c.as_slice.ensures.value)));
       count = c.requires.plan.1;
     }
 

@@ -4,8 +4,6 @@ use Rattle.pb_run_losses.proofs.unwritten.put_unwritten.Given as goal
 
 abbrev pub invariant-loop-index : goal.invariant-loop-index
 invariant-loop-index g l = string_bytes l.out
-    ++ unwritten_lines (drop l.index l.customers) (map (λ b. (goal.Port-dyn g (b.vtable, b.value)).waiting b.value)
-    (drop l.index l.ports)) (drop l.index l.tallies)
+    ++ unwritten_lines (drop l.index l.customers) (map g.P.Port.waiting (drop l.index l.ports)) (drop l.index l.tallies)
     ≡ string_bytes l.initial.out
-    ++ unwritten_lines l.customers (map (λ b. (goal.Port-dyn g (b.vtable, b.value)).waiting b.value) l.ports)
-    l.tallies
+    ++ unwritten_lines l.customers (map g.P.Port.waiting l.ports) l.tallies

@@ -1,7 +1,7 @@
 use Rattle.std.proofs.Common.{◌≡◌, ◌++◌, ap, map, rules}
 use Rattle.std.proofs.lemmas.Result.{err_from_is_err_and}
 use Rattle.std.specs.Vec.Iter.{into_iter_items}
-use Rattle.pb_run_ports.specs.Opened.{opening, shown, written}
+use Rattle.pb_run_ports.specs.Opened.{octets_at, opening, shown, written}
 use Rattle.pb_run_ports.proofs.DeedLemmas.{begun_none, begun_more, has_begun_more, has_begun_still}
 use Rattle.pb_run_ports.proofs.MoveLemmas.{moved_over}
 use Rattle.pb_run_ports.proofs.opened.open_outs.Goals as goal
@@ -9,6 +9,8 @@ use Rattle.pb_run_ports.proofs.opened.open_outs.Goals as goal
 pub loop-port-init : goal.loop-port-init
 loop-port-init g c = record {
   ports = ap (λ ports. map shown ports ++ map shown (into_iter_items c.into_iter-port-iterator.result)) c.requires;
+  octets = ap (λ ports. map (octets_at g.O.Openings.unread) ports
+      ++ map (octets_at g.O.Openings.unread) (into_iter_items c.into_iter-port-iterator.result)) c.requires;
   done = begun_none _ _;
 }
 
@@ -18,6 +20,10 @@ loop-port-preserved g c = record {
       (into_iter_items c.loop-port.port-iterator) (into_iter_items c.next.new.self)
       c.in-Some.port _ c.loop-port.invariant.ports c.in_ok-push.ensures.items c.in-Some.ensures.steps.0
       c.in_ok-port.ensures.ok.1;
+  octets = moved_over (octets_at g.O.Openings.unread) c.loop-port.whole.items c.push.new.self.items c.in_ok-port.port
+      (octets_at g.O.Openings.unread) (into_iter_items c.loop-port.port-iterator) (into_iter_items c.next.new.self)
+      c.in-Some.port _ c.loop-port.invariant.octets c.in_ok-push.ensures.items c.in-Some.ensures.steps.0
+      c.in_ok-port.ensures.octets;
   done = begun_more _ _ _ _ _ (opening (shown c.in-Some.port).write)
       (written (map shown (into_iter_items c.next.new.self))) c.loop-port.invariant.done
       (ap (λ ports. written (map shown ports)) c.in-Some.ensures.steps.0) c.in_ok-port.ensures.ok.0;
