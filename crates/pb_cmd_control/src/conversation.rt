@@ -7,6 +7,7 @@ ghost use Rattle.pb_cmd_control.specs.Conversations.{HasConversed, IsPassedOn, P
 use crate::answer::{Verdict, read_answer};
 use crate::fault::ControlFault;
 use pb_lines::{Found, LineReader};
+use pb_messages::write_whole;
 use std::alloc::Global;
 use std::io::{Read, Write};
 
@@ -39,10 +40,10 @@ fn print<W: Write>(text: &[u8], out: &mut W) -> Result<(), ControlFault>
     ensures ok { OnOk result (Appends (W.contents out.old) (W.contents out.new) text.now) }
     ensures kinds { IfErr result (λ e. e ≡ ControlFault.Output) }
 {
-    if out.write_all(text).is_err() || out.flush().is_err() {
-        return Err(ControlFault::Output);
+    match write_whole(out, text) {
+        Ok(()) => Ok(()),
+        Err(_) => Err(ControlFault::Output),
     }
-    Ok(())
 }
 
 /// Sends a command, reads the whole reply and prints it. Returns the result of the reply.

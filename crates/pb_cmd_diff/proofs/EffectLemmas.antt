@@ -29,9 +29,10 @@ use Rattle.pb_cmd_diff.specs.declared.case.Case.{Case}
 use Rattle.pb_cmd_diff.specs.declared.effect.Effect.{Effect}
 use Rattle.pb_cmd_diff.specs.declared.effect.ServiceChange.{ServiceChange}
 use Rattle.pb_cmd_diff.specs.declared.member.Member.{Member}
+use Rattle.pb_relay.proofs.StandingLemmas.{and-true}
 use Rattle.pb_cmd_diff.proofs.MemberLemmas.{contains_none, contains_cases, at_of, contains_map}
 use Rattle.pb_cmd_diff.proofs.MemberLemmas.{contains_unmap, contains_flat, contains_unflat, pair_of, pair_passes}
-use Rattle.pb_cmd_diff.proofs.MemberLemmas.{but_not, and_not, either, same_passes, passes_same}
+use Rattle.pb_cmd_diff.proofs.MemberLemmas.{and_not, either, same_passes, passes_same}
 
 -- a member, and the port that it is in both networks
 record IsMade (old new : Plan) (olds news : List Site) (m : Member) : Type 0 where
@@ -235,7 +236,7 @@ loses_tells old new before after what service olds news b = (to, from)
         let two = pair_of is_parted ms h in
         let m = two.0 in
         let n = two.1 in
-        let parted = but_not (m.old == n.old) (m.new == n.new) two.4 in
+        let parted = and-true (m.old == n.old) (m.new == n.new) two.4 in
         let pair = pair_made old new before after what service olds news b m n two.2 two.3 in
         record {
           p = pair.0;
@@ -268,7 +269,7 @@ gains_tells old new before after what service olds news b = (to, from)
         let two = pair_of is_joined ms h in
         let m = two.0 in
         let n = two.1 in
-        let joined = but_not (m.new == n.new) (m.old == n.old) two.4 in
+        let joined = and-true (m.new == n.new) (m.old == n.old) two.4 in
         let pair = pair_made old new before after what service olds news b m n two.2 two.3 in
         record {
           p = pair.0;
@@ -292,7 +293,7 @@ differ_tells : {A B : Type 0} (a b : Bool) → (a ≡ true) ↔ A → (b ≡ tru
 differ_tells {A} {B} a b f g = (to, from)
   where
     to : (a && not b) ≡ true → A × (B → ⊥)
-    to h = let two = but_not a b h in (f.0 two.0, λ x. true-false b (g.1 x) two.1)
+    to h = let two = and-true a b h in (f.0 two.0, λ x. true-false b (g.1 x) two.1)
 
     from : A × (B → ⊥) → (a && not b) ≡ true
     from (x, y) = and_not a b (f.1 x) (false-unless b (λ h. y (g.0 h)))
@@ -381,7 +382,7 @@ some_tells old new before after what test P each (s ∷ ss) (x ∷ xs) (y ∷ ys
 -- the bridges rest in one network and not in the other
 rests_tell : (was is : Rest) → ((is_settled was && not (is_settled is)) ≡ true) ↔ Differ was is
 rests_tell was is = (
-  λ h. but_not (is_settled was) (is_settled is) h,
+  λ h. and-true (is_settled was) (is_settled is) h,
   λ d. and_not (is_settled was) (is_settled is) d.0 d.1,
 )
 

@@ -84,10 +84,6 @@ pair_passes test xs x y c d h =
     (c.0, x, c.1, c.2, list_any-from_Any (test x) xs (d.0, y, d.1, d.2, h))
 
 -- a test of two tests, of which the second must fail
-pub but_not : (a b : Bool) → (a && not b) ≡ true → (a ≡ true) × (b ≡ false)
-but_not true false h = (refl, refl)
-but_not _ _ h = cc
-
 pub and_not : (a b : Bool) → a ≡ true → b ≡ false → (a && not b) ≡ true
 and_not true true h k = cc
 and_not true false h k = refl

@@ -13,18 +13,18 @@ use Rattle.pb_cmd_diff.specs.declared.end.DiffEnd.TheVariants.{Kept, Worse, Lack
 use Rattle.pb_cmd_survive.specs.Survivals.{most_events}
 use Rattle.pb_cmd_survive.specs.declared.failure.Failure.TheVariants.{Nothing}
 use Rattle.pb_cmd_report.specs.Html.{escaped}
-use Rattle.pb_cmd_report.specs.Outcomes.{IsOutcome}
+use Rattle.pb_cmd_report.specs.Analyses.{IsAnalysis}
 use Rattle.pb_cmd_report.specs.declared.asked.Asked.{Asked}
 use Rattle.pb_cmd_report.specs.declared.asked.OldPlan.{OldPlan}
-use Rattle.pb_cmd_report.specs.declared.outcome.Outcome.{Outcome}
+use Rattle.pb_cmd_report.specs.declared.analysis.Analysis.{Analysis}
 use Rattle.pb_cmd_report.specs.declared.texts.TheConstants.{CHANGE, AFTER_OLD_TITLE, BEFORE_OLD_PICTURE, AFTER_CHANGE}
 
 -- nothing has failed
 abbrev pub none_failed : Failures
 none_failed = record { bridges = []; links = [] }
 
--- the picture of a network with nothing down, whose ports are in the states of this outcome
-abbrev pub IsCalmPicture : Plan → Outcome → List ℕ → Type 0
+-- the picture of a network with nothing down, whose ports are in the states of this analysis
+abbrev pub IsCalmPicture : Plan → Analysis → List ℕ → Type 0
 IsCalmPicture plan base picture = IsPictureOf plan base.shape None none_failed false Svg picture
 
 -- the options of `diff`: all services are compared, and failures without an effect have no line
@@ -55,8 +55,8 @@ change_text title said picture = said_text title said ++ picture ++ AFTER_CHANGE
 
 -- the text about a change of which `diff` says this, with the picture of the old network with nothing down
 pub record IsChangeText (plan : Plan) (title said : List ℕ) (ticks : ℕ) (text : List ℕ) : Type 0 where
-  pub base : Outcome
-  pub is_base : IsOutcome plan [] [] ticks most_events Nothing base
+  pub base : Analysis
+  pub is_base : IsAnalysis plan [] [] ticks most_events Nothing base
   pub picture : List ℕ
   pub is_picture : IsCalmPicture plan base picture
   pub text_is : text ≡ change_text title said picture

@@ -11,7 +11,7 @@ use Rattle.pb_cmd_survive.specs.declared.view.View.{View}
 use Rattle.pb_cmd_report.specs.Html.{cell_of, row_of}
 use Rattle.pb_cmd_report.specs.States.{states_data}
 use Rattle.pb_cmd_report.specs.Words.{rest_words}
-use Rattle.pb_cmd_report.specs.declared.outcome.Outcome.{Outcome}
+use Rattle.pb_cmd_report.specs.declared.analysis.Analysis.{Analysis}
 
 -- all customer ports count but those of a failed bridge; every failure is in the report
 abbrev pub criteria : Criteria
@@ -40,5 +40,5 @@ failure_cells plan base o =
     ++ cell_of (parted_text plan base o)
 
 -- its row, with the states of all links then
-unfoldable pub failure_row : Plan → Impact → Outcome → List ℕ
+unfoldable pub failure_row : Plan → Impact → Analysis → List ℕ
 failure_row plan base o = row_of (states_data plan o.shape o.impact.failure) (failure_cells plan base o.impact)

@@ -1,7 +1,7 @@
 pub mod Changes
 pub mod Failures
 pub mod Html
-pub mod Outcomes
+pub mod Analyses
 pub mod Pages
 pub mod States
 pub mod Tables

@@ -8,11 +8,11 @@ ghost use Rattle.pb_report.specs.PlanFiles.{IsToldBy};
 ghost use Rattle.pb_cmd_report.specs.Changes.{comparing, has_compared, said_text, change_text, IsSaid};
 ghost use Rattle.pb_cmd_report.specs.Changes.{IsCalmPicture, IsChangeText, IsChange};
 ghost use Rattle.pb_cmd_report.specs.Html.{escaped};
-ghost use Rattle.pb_cmd_report.specs.Outcomes.{IsOutcome};
+ghost use Rattle.pb_cmd_report.specs.Analyses.{IsAnalysis};
 
+use crate::analysis::{Analysis, look_at};
 use crate::asked::{Asked, OldPlan};
 use crate::html::put_escaped;
-use crate::outcome::{Outcome, look_at};
 use crate::picture::put_picture;
 use crate::raise::raise_whole;
 use crate::texts::{AFTER_CHANGE, AFTER_OLD_TITLE, BEFORE_OLD_PICTURE, CHANGE};
@@ -61,7 +61,7 @@ fn has_compared(end: DiffEnd) -> bool
     }
 }
 
-/// Returns the fault of `diff` over files in memory: a read or a write of them fails only for want of memory.
+/// Returns the fault of `diff` over files in memory. A read or a write of them fails only if an allocation failed.
 fn in_memory(fault: CommandFault) -> CommandFault
     ensures { result ≢ CommandFault.Read }
 {
@@ -100,7 +100,7 @@ fn said_of<R: Threads + Sync>(
     }
 }
 
-/// Appends an escaped text. Fails as for want of memory if it is not UTF-8, which no command prints.
+/// Appends an escaped text. Fails with `Memory` if it is not UTF-8, which no command prints.
 fn put_octets(out: &mut String, text: &[u8]) -> Result<(), Memory>
     ensures { OnOk result (string_bytes out.new ≡ string_bytes out.old ++ escaped text.now) }
 {
@@ -122,12 +122,12 @@ fn put_said(out: &mut String, title: &str, said: &[u8]) -> Result<(), Memory>
     Ok(())
 }
 
-/// Appends what `diff` prints, and the picture of the old network from its outcome with nothing down.
+/// Appends what `diff` prints, and the picture of the old network from its analysis with nothing down.
 fn put_change(
     alloc: Global,
     out: &mut String,
     plan: &Plan,
-    base: &Outcome,
+    base: &Analysis,
     title: &str,
     said: &[u8],
 ) -> Result<(), Memory>
@@ -142,10 +142,10 @@ fn put_change(
     Ok(())
 }
 
-/// Returns the outcome of the network of a plan with nothing down, without any services.
-fn calm_of(alloc: Global, plan: &Plan, ticks: u32) -> Result<Outcome, DriveFault>
+/// Returns the analysis of the network of a plan with nothing down, without any services.
+fn calm_of(alloc: Global, plan: &Plan, ticks: u32) -> Result<Analysis, DriveFault>
     requires { IsSound plan.now }
-    ensures { IfOk result (IsOutcome plan.now [] [] ticks most_events Nothing) }
+    ensures { IfOk result (IsAnalysis plan.now [] [] ticks most_events Nothing) }
 {
     let none: Vec<String> = Vec::new(alloc);
     let standing = raise_whole(alloc, plan, none.as_slice(), ticks)?;

@@ -9,9 +9,9 @@ ghost use Rattle.pb_cmd_report.specs.Failures.{failure_row};
 ghost use Rattle.pb_cmd_report.specs.Html.{cell_of};
 ghost use Rattle.pb_cmd_report.specs.Words.{rest_words};
 
+use crate::analysis::Analysis;
 use crate::criteria::CRITERIA;
 use crate::html::put_cell;
-use crate::outcome::Outcome;
 use crate::states::put_states;
 use crate::words::put_rest_words;
 use pb_cmd_survive::{Failure, Impact, View, parts_view, put_failure, put_groups};
@@ -153,16 +153,16 @@ pub(crate) fn put_failure_row(
     out: &mut String,
     plan: &Plan,
     base: &Impact,
-    outcome: &Outcome,
+    analysis: &Analysis,
 ) -> Result<(), Memory>
     requires { IsSound plan.now }
     ensures { OnOk result (string_bytes out.new ≡ string_bytes out.old
-        ++ failure_row plan.now base.now outcome.now) }
+        ++ failure_row plan.now base.now analysis.now) }
 {
     out.push_str("<tr")?;
-    put_states(out, plan, &outcome.shape, outcome.impact.failure)?;
+    put_states(out, plan, &analysis.shape, analysis.impact.failure)?;
     out.push_str(">")?;
-    put_failure_cells(alloc, out, plan, base, &outcome.impact)?;
+    put_failure_cells(alloc, out, plan, base, &analysis.impact)?;
     out.push_str("</tr>\n")?;
     Ok(())
 }
@@ -173,14 +173,14 @@ pub(crate) fn put_failure_rows(
     out: &mut String,
     plan: &Plan,
     base: &Impact,
-    outcomes: &[Outcome],
+    analyses: &[Analysis],
 ) -> Result<(), Memory>
     requires { IsSound plan.now }
     ensures { OnOk result (string_bytes out.new ≡ string_bytes out.old
-        ++ flat_map (failure_row plan.now base.now) outcomes.now) }
+        ++ flat_map (failure_row plan.now base.now) analyses.now) }
 {
-    for outcome in outcomes {
-        put_failure_row(alloc, out, plan, base, outcome)?;
+    for analysis in analyses {
+        put_failure_row(alloc, out, plan, base, analysis)?;
     }
     Ok(())
 }

@@ -5,13 +5,13 @@
 //! Begin reading at `report.rt`, [`run_report`], then `page.rt`, `failures.rt` and `html.rt`.
 #![tactic(auto)]
 
+mod analysis;
 mod asked;
 mod change;
 mod criteria;
 mod end;
 mod failures;
 mod html;
-mod outcome;
 mod page;
 mod picture;
 mod raise;
@@ -25,7 +25,7 @@ mod texts;
 mod trees;
 mod words;
 
+pub use analysis::Analysis;
 pub use asked::{Asked, OldPlan};
 pub use end::ReportEnd;
-pub use outcome::Outcome;
 pub use report::run_report;

@@ -12,10 +12,10 @@ ghost use Rattle.pb_cmd_report.specs.Pages.{count_words};
 ghost use Rattle.pb_cmd_report.specs.Html.{table_of};
 ghost use Rattle.pb_cmd_report.specs.declared.texts.TheConstants.{TREE};
 
+use crate::analysis::Analysis;
 use crate::criteria::CRITERIA;
 use crate::failures::{put_failure_row, put_failure_rows};
 use crate::html::put_escaped;
-use crate::outcome::Outcome;
 use crate::picture::put_picture;
 use crate::script::SCRIPT;
 use crate::services::put_service_rows;
@@ -44,32 +44,32 @@ fn put_head(out: &mut String, title: &str) -> Result<(), Memory>
 }
 
 /// Returns how many failures disconnect a service.
-fn count_parting(base: &Outcome, outcomes: &[Outcome]) -> usize
-    ensures { result ≡ count_by (λ o. parts criteria base.now.impact o.impact) outcomes.now }
+fn count_parting(base: &Analysis, analyses: &[Analysis]) -> usize
+    ensures { result ≡ count_by (λ a. parts criteria base.now.impact a.impact) analyses.now }
 {
-    outcomes
+    analyses
         .iter()
-        .filter(|outcome| parts(CRITERIA, &base.impact, &outcome.impact))
+        .filter(|analysis| parts(CRITERIA, &base.impact, &analysis.impact))
         .count()
 }
 
 /// Returns how many failures leave a forwarding loop.
-fn count_looping(outcomes: &[Outcome]) -> usize
-    ensures { result ≡ count_by (λ o. not (are_forests o.impact.views)) outcomes.now }
+fn count_looping(analyses: &[Analysis]) -> usize
+    ensures { result ≡ count_by (λ a. not (are_forests a.impact.views)) analyses.now }
 {
-    outcomes
+    analyses
         .iter()
-        .filter(|outcome| !are_forests(outcome.impact.views.as_slice()))
+        .filter(|analysis| !are_forests(analysis.impact.views.as_slice()))
         .count()
 }
 
 /// Returns after how many failures the bridges do not converge.
-fn count_unsettled(outcomes: &[Outcome]) -> usize
-    ensures { result ≡ count_by (λ o. not (is_settled o.impact.rest)) outcomes.now }
+fn count_unsettled(analyses: &[Analysis]) -> usize
+    ensures { result ≡ count_by (λ a. not (is_settled a.impact.rest)) analyses.now }
 {
-    outcomes
+    analyses
         .iter()
-        .filter(|outcome| !is_settled(outcome.impact.rest))
+        .filter(|analysis| !is_settled(analysis.impact.rest))
         .count()
 }
 
@@ -82,13 +82,13 @@ fn put_count(out: &mut String, what: &str, number: usize) -> Result<(), Memory>
 }
 
 /// Appends how many failures were analysed, and how many do which harm.
-fn put_counts(out: &mut String, base: &Outcome, outcomes: &[Outcome]) -> Result<(), Memory>
-    ensures { OnOk result (string_bytes out.new ≡ string_bytes out.old ++ counts_text base.now outcomes.now) }
+fn put_counts(out: &mut String, base: &Analysis, analyses: &[Analysis]) -> Result<(), Memory>
+    ensures { OnOk result (string_bytes out.new ≡ string_bytes out.old ++ counts_text base.now analyses.now) }
 {
-    let parting = count_parting(base, outcomes);
-    let looping = count_looping(outcomes);
-    let unsettled = count_unsettled(outcomes);
-    put_count(out, "<p id=\"counts\">Failures analysed: ", outcomes.len())?;
+    let parting = count_parting(base, analyses);
+    let looping = count_looping(analyses);
+    let unsettled = count_unsettled(analyses);
+    put_count(out, "<p id=\"counts\">Failures analysed: ", analyses.len())?;
     put_count(out, ". With a disconnected service: ", parting)?;
     put_count(out, ". With a forwarding loop: ", looping)?;
     put_count(out, ". Without convergence: ", unsettled)?;
@@ -102,16 +102,16 @@ fn put_top(
     out: &mut String,
     plan: &Plan,
     title: &str,
-    base: &Outcome,
-    outcomes: &[Outcome],
+    base: &Analysis,
+    analyses: &[Analysis],
 ) -> Result<(), Memory>
     requires { IsSound plan.now }
     ensures { OnOk result ((picture : List ℕ) × (string_bytes out.new ≡ string_bytes out.old
-        ++ top_text title.now picture base.now outcomes.now)
+        ++ top_text title.now picture base.now analyses.now)
         × IsCalmPicture plan.now base.now picture) }
 {
     put_head(out, title)?;
-    put_counts(out, base, outcomes)?;
+    put_counts(out, base, analyses)?;
     out.push_str(BEFORE_PICTURE)?;
     put_picture(alloc, out, plan, base)?;
     out.push_str(AFTER_PICTURE)?;
@@ -123,22 +123,22 @@ fn put_failures(
     alloc: Global,
     out: &mut String,
     plan: &Plan,
-    base: &Outcome,
-    outcomes: &[Outcome],
+    base: &Analysis,
+    analyses: &[Analysis],
 ) -> Result<(), Memory>
     requires { IsSound plan.now }
     ensures { OnOk result (string_bytes out.new ≡ string_bytes out.old
-        ++ failures_table plan.now base.now outcomes.now) }
+        ++ failures_table plan.now base.now analyses.now) }
 {
     out.push_str(FAILURES)?;
     put_failure_row(alloc, out, plan, &base.impact, base)?;
-    put_failure_rows(alloc, out, plan, &base.impact, outcomes)?;
+    put_failure_rows(alloc, out, plan, &base.impact, analyses)?;
     out.push_str(TABLE_END)?;
     Ok(())
 }
 
 /// Appends the table of services.
-fn put_services(alloc: Global, out: &mut String, plan: &Plan, base: &Outcome) -> Result<(), Memory>
+fn put_services(alloc: Global, out: &mut String, plan: &Plan, base: &Analysis) -> Result<(), Memory>
     ensures { OnOk result (string_bytes out.new ≡ string_bytes out.old ++ services_table plan.now base.now) }
 {
     out.push_str(SERVICES)?;
@@ -162,7 +162,7 @@ fn put_tree_rows(
     alloc: Global,
     out: &mut String,
     standing: &Standing<'_>,
-    base: &Outcome,
+    base: &Analysis,
 ) -> Result<(), Memory>
     requires { IsStanding standing.now }
     ensures { OnOk result ((trees : List ℕ) × (string_bytes out.new ≡ string_bytes out.old ++ trees)
@@ -181,7 +181,7 @@ fn put_tree(
     alloc: Global,
     out: &mut String,
     standing: &Standing<'_>,
-    base: &Outcome,
+    base: &Analysis,
 ) -> Result<(), Memory>
     requires { IsStanding standing.now }
     ensures { OnOk result ((trees : List ℕ) × (string_bytes out.new ≡ string_bytes out.old ++ table_of TREE.now trees)
@@ -199,17 +199,17 @@ fn put_tables(
     alloc: Global,
     out: &mut String,
     standing: &Standing<'_>,
-    base: &Outcome,
-    outcomes: &[Outcome],
+    base: &Analysis,
+    analyses: &[Analysis],
 ) -> Result<(), Memory>
     requires { IsStanding standing.now }
     ensures { OnOk result ((trees : List ℕ) × (string_bytes out.new ≡ string_bytes out.old
-        ++ tables_text standing.now.plan.now trees base.now outcomes.now)
+        ++ tables_text standing.now.plan.now trees base.now analyses.now)
         × AreTrees standing.now.plan.now standing.now.names.now standing.now.patience.ticks
         standing.now.patience.events base.now trees) }
 {
     let plan = standing.plan;
-    put_failures(alloc, out, plan, base, outcomes)?;
+    put_failures(alloc, out, plan, base, analyses)?;
     put_services(alloc, out, plan, base)?;
     put_sites(out, plan)?;
     put_tree(alloc, out, standing, base)
@@ -226,7 +226,7 @@ fn put_source(out: &mut String, source: &str) -> Result<(), Memory>
     Ok(())
 }
 
-/// Appends the page on a network that is up, from the text about a change, and the outcomes of nothing and of each
+/// Appends the page on a network that is up, from the text about a change, and the analyses of nothing and of each
 /// failure.
 pub(crate) fn put_page(
     alloc: Global,
@@ -235,15 +235,15 @@ pub(crate) fn put_page(
     title: &str,
     source: &str,
     change: &str,
-    base: &Outcome,
-    outcomes: &[Outcome],
+    base: &Analysis,
+    analyses: &[Analysis],
 ) -> Result<(), Memory>
     requires { IsStanding standing.now }
     ensures { OnOk result ((text : List ℕ) × (string_bytes out.new ≡ string_bytes out.old ++ text)
-        × IsPageTextOn standing.now title.now source.now change.now base.now outcomes.now text) }
+        × IsPageTextOn standing.now title.now source.now change.now base.now analyses.now text) }
 {
-    put_top(alloc, out, standing.plan, title, base, outcomes)?;
+    put_top(alloc, out, standing.plan, title, base, analyses)?;
     out.push_str(change)?;
-    put_tables(alloc, out, standing, base, outcomes)?;
+    put_tables(alloc, out, standing, base, analyses)?;
     put_source(out, source)
 }

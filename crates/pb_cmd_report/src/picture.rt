@@ -4,7 +4,7 @@ ghost use Rattle.std.specs.Prelude.{◌≡◌, ◌++◌, List, ℕ, string_bytes
 ghost use Rattle.pb_lan.specs.Plans.{IsSound};
 ghost use Rattle.pb_cmd_report.specs.Changes.{none_failed, IsCalmPicture};
 
-use crate::outcome::Outcome;
+use crate::analysis::Analysis;
 use pb_cmd_draw::{Failures, Rooms, put_svg, scene_of};
 use pb_frame::{Memory, Seq};
 use pb_lan::Plan;
@@ -20,12 +20,12 @@ fn none_failed(alloc: Global) -> Failures
     }
 }
 
-/// Appends the picture of a network from its outcome with nothing down.
+/// Appends the picture of a network from its analysis with nothing down.
 pub(crate) fn put_picture(
     alloc: Global,
     out: &mut String,
     plan: &Plan,
-    base: &Outcome,
+    base: &Analysis,
 ) -> Result<(), Memory>
     requires { IsSound plan.now }
     ensures { OnOk result ((text : List ℕ) × (string_bytes out.new ≡ string_bytes out.old ++ text)

@@ -3,7 +3,7 @@
 ghost use Rattle.std.specs.Prelude.{◌≡◌, [], IfOk};
 ghost use Rattle.pb_cmd_survive.specs.Impacts.{IsStanding};
 ghost use Rattle.pb_lan.specs.Plans.{IsSound};
-ghost use Rattle.pb_cmd_report.specs.Outcomes.{patience_of};
+ghost use Rattle.pb_cmd_report.specs.Analyses.{patience_of};
 
 use pb_cmd_survive::{Patience, Standing, raise};
 use pb_converge::DriveFault;

@@ -8,10 +8,10 @@ ghost use Rattle.pb_lan.specs.Plans.{IsSound};
 ghost use Rattle.pb_report.specs.PlanFiles.{IsToldBy};
 ghost use Rattle.pb_cmd_report.specs.Pages.{IsPage, IsPageOn, IsPageFrom, IsTextFrom, IsReportText};
 
+use crate::analysis::{look_at, look_at_all};
 use crate::asked::{Asked, OldPlan};
 use crate::change::change_of;
 use crate::end::ReportEnd;
-use crate::outcome::{look_at, look_at_all};
 use crate::page::put_page;
 use crate::raise::raise_whole;
 use pb_cmd_survive::{Failure, FailureProgress, Standing, all_services, failures};
@@ -45,7 +45,7 @@ fn put_looks<R: Threads + Sync, V: FailureProgress>(
     let services = all_services(alloc, plan)?;
     let failures = failures(alloc, plan, asked.kinds)?;
     let base = look_at(alloc, standing, services.as_slice(), Failure::Nothing)?;
-    let outcomes = look_at_all(
+    let analyses = look_at_all(
         rt,
         alloc,
         standing,
@@ -53,7 +53,7 @@ fn put_looks<R: Threads + Sync, V: FailureProgress>(
         failures.as_slice(),
         progress,
     )?;
-    let outcomes = outcomes.as_slice();
+    let analyses = analyses.as_slice();
     put_page(
         alloc,
         out,
@@ -62,7 +62,7 @@ fn put_looks<R: Threads + Sync, V: FailureProgress>(
         source,
         change,
         &base,
-        outcomes,
+        analyses,
     )?;
     Ok(())
 }

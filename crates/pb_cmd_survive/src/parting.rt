@@ -58,8 +58,8 @@ pub fn parts_view(criteria: Criteria, old: &View, new: &View) -> bool
         .any(|(was, is)| is_lost(criteria, before, now, *was, *is))
 }
 
-/// Checks whether a failure disconnects some service, as [`parts_view`] says, from the impact with nothing down and that
-/// of the failure.
+/// Checks whether a failure disconnects some service, as [`parts_view`] says, from the impact with nothing down and
+/// that of the failure.
 pub fn parts(criteria: Criteria, base: &Impact, impact: &Impact) -> bool
     ensures { result ≡ parts criteria base.now impact.now }
 {

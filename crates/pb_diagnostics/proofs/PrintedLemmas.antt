@@ -11,10 +11,10 @@ use Rattle.std.specs.Option.{option_map_or}
 use Rattle.std.specs.Prelude.{nat_lt, ◌==◌, ◌||◌}
 use Rattle.pb_printable.specs.Printable.{printable, IsOneLine}
 use Rattle.pb_printable.proofs.PrintableLemmas.{IsPrinted, one_line}
-use Rattle.pb_diagnostics.specs.Places.{is_first_octet}
+use Rattle.pb_diagnostics.specs.Excerpts.{is_first_octet}
 use Rattle.pb_diagnostics.specs.PrintedLines.{ArePrintedLines, ended}
-use Rattle.pb_diagnostics.specs.Texts.{pad, carets, location, excerpt_of, excerpt, hint_line, diagnostic_text}
-use Rattle.pb_diagnostics.specs.declared.place.Place.{Place}
+use Rattle.pb_diagnostics.specs.Texts.{pad, carets, location, underlined, excerpt_text, hint_line, diagnostic_text}
+use Rattle.pb_diagnostics.specs.declared.excerpt.Excerpt.{Excerpt}
 use Rattle.pb_diagnostics.specs.declared.diagnostic.Diagnostic.{Diagnostic}
 
 -- one octet more
@@ -55,15 +55,16 @@ pub path_printed : (path : List ℕ) → IsOneLine (location path None)
 path_printed path = joined (printable path) (codes ": ") (one_line path) colon_space
 
 -- a path with line and column
-pub place_printed : (path : List ℕ) (p : Place) → p.line < 2 ^ 64 → p.column < 2 ^ 64 → IsOneLine (location path (Some p))
-place_printed path p line column =
+pub location_printed : (path : List ℕ) (x : Excerpt) → x.line < 2 ^ 64 → x.column < 2 ^ 64
+    → IsOneLine (location path (Some x))
+location_printed path x line column =
     let colon : IsOneLine (codes ":") = more 58 [] (omega arith) (omega arith) none in
     let a = joined (printable path) (codes ":") (one_line path) colon in
-    let b = joined (printable path ++ codes ":") (decimal p.line) a (decimal_printed p.line line) in
-    let d = joined (printable path ++ codes ":" ++ decimal p.line) (codes ":") b colon in
-    let e = joined (printable path ++ codes ":" ++ decimal p.line ++ codes ":") (decimal p.column) d
-    (decimal_printed p.column column) in
-    joined (printable path ++ codes ":" ++ decimal p.line ++ codes ":" ++ decimal p.column) (codes ": ") e colon_space
+    let b = joined (printable path ++ codes ":") (decimal x.line) a (decimal_printed x.line line) in
+    let d = joined (printable path ++ codes ":" ++ decimal x.line) (codes ":") b colon in
+    let e = joined (printable path ++ codes ":" ++ decimal x.line ++ codes ":") (decimal x.column) d
+    (decimal_printed x.column column) in
+    joined (printable path ++ codes ":" ++ decimal x.line ++ codes ":" ++ decimal x.column) (codes ": ") e colon_space
 
 -- what is under an octet, by the tests that choose it
 pad_by : (two six one : Bool) → IsOneLine (cond two (codes "  ") (cond six (codes "      ") (cond one (codes " ") [])))
@@ -107,9 +108,9 @@ regroup : (a b c d e : List ℕ) → a ++ b ++ c ++ d ++ e ≡ a ++ (b ++ c ++ d
 regroup a b c d e = simp append_assoc
 
 -- a line of the file with carets under it
-excerpt_lines : (text : List ℕ) (column width : ℕ) → ArePrintedLines (excerpt_of text column width)
-excerpt_lines [] column width = no_lines
-excerpt_lines (b ∷ bs) column width =
+underlined_lines : (text : List ℕ) (column width : ℕ) → ArePrintedLines (underlined text column width)
+underlined_lines [] column width = no_lines
+underlined_lines (b ∷ bs) column width =
     let under = flat_map pad (take (column - 1) (b ∷ bs)) in
     let under_printed = joined (codes "    ") under four_spaces (pads_printed (take (column - 1) (b ∷ bs))) in
     let last_printed = joined (codes "    " ++ under) (carets width) under_printed (carets_printed width) in
@@ -120,14 +121,15 @@ excerpt_lines (b ∷ bs) column width =
     subst ArePrintedLines
     (sym (regroup (codes "    " ++ printable (b ∷ bs)) (10 ∷ codes "    ") under (carets width) (10 ∷ []))) both
 
-place_lines : (place : Option Place) → ArePrintedLines (option_map_or excerpt place [])
-place_lines None = no_lines
-place_lines (Some p) = excerpt_lines (string_bytes p.text) p.column p.width
+excerpt_lines : (excerpt : Option Excerpt) → ArePrintedLines (option_map_or excerpt_text excerpt [])
+excerpt_lines None = no_lines
+excerpt_lines (Some x) = underlined_lines (string_bytes x.text) x.column x.width
 
 hint_printed : IsOneLine (codes "hint: ")
 hint_printed =
     more 104 (codes "int: ") (omega arith) (omega arith) (more 105 (codes "nt: ") (omega arith) (omega arith)
-    (more 110 (codes "t: ") (omega arith) (omega arith) (more 116 (codes ": ") (omega arith) (omega arith) colon_space)))
+    (more 110 (codes "t: ") (omega arith) (omega arith)
+    (more 116 (codes ": ") (omega arith) (omega arith) colon_space)))
 
 hint_lines : {X : Type 0} (bytes : X → List ℕ) (hint : Option X)
     → ArePrintedLines (option_map_or (λ h. hint_line (bytes h)) hint [])
@@ -137,12 +139,13 @@ hint_lines bytes (Some h) =
     (joined (codes "hint: ") (printable (bytes h)) hint_printed (one_line (bytes h))) no_lines
 
 -- an error whose first line begins without control characters
-pub diagnostic_lines : (path : List ℕ) (d : Diagnostic) → IsOneLine (location path d.place)
+pub diagnostic_lines : (path : List ℕ) (d : Diagnostic) → IsOneLine (location path d.excerpt)
     → ArePrintedLines (diagnostic_text path d)
 diagnostic_lines path d h =
     let message = printable (string_bytes d.message) in
-    let first = joined (location path d.place) message h (one_line (string_bytes d.message)) in
-    joined_lines (location path d.place ++ message ++ 10 ∷ option_map_or excerpt d.place [])
+    let first = joined (location path d.excerpt) message h (one_line (string_bytes d.message)) in
+    joined_lines (location path d.excerpt ++ message ++ 10 ∷ option_map_or excerpt_text d.excerpt [])
     (option_map_or (λ hint. hint_line (string_bytes hint)) d.hint [])
-    (one_more (location path d.place ++ message) (option_map_or excerpt d.place []) first (place_lines d.place))
+    (one_more (location path d.excerpt ++ message) (option_map_or excerpt_text d.excerpt []) first
+    (excerpt_lines d.excerpt))
     (hint_lines string_bytes d.hint)

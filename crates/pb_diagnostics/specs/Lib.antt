@@ -2,7 +2,7 @@ pub mod Sites
 pub mod Statements
 pub mod Lines
 pub mod Marks
-pub mod Places
+pub mod Excerpts
 pub mod Texts
 pub mod Nearest
 pub mod PrintedLines

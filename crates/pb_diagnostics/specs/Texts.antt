@@ -4,8 +4,8 @@ use Rattle.std.specs.Fmt.{decimal}
 use Rattle.std.specs.List.{flat_map}
 use Rattle.std.specs.Option.{option_map_or}
 use Rattle.pb_printable.specs.Printable.{printable}
-use Rattle.pb_diagnostics.specs.Places.{is_first_octet}
-use Rattle.pb_diagnostics.specs.declared.place.Place.{Place}
+use Rattle.pb_diagnostics.specs.Excerpts.{is_first_octet}
+use Rattle.pb_diagnostics.specs.declared.excerpt.Excerpt.{Excerpt}
 use Rattle.pb_diagnostics.specs.declared.diagnostic.Diagnostic.{Diagnostic}
 
 -- a space for each character of the escape of an octet, or for the character that it begins
@@ -20,18 +20,18 @@ carets zero = []
 carets (suc n) = 94 ∷ carets n
 
 -- the path of a file, with line and column
-abbrev pub location : List ℕ → Option Place → List ℕ
+abbrev pub location : List ℕ → Option Excerpt → List ℕ
 location path None = printable path ++ codes ": "
-location path (Some p) = printable path ++ codes ":" ++ decimal p.line ++ codes ":" ++ decimal p.column ++ codes ": "
+location path (Some e) = printable path ++ codes ":" ++ decimal e.line ++ codes ":" ++ decimal e.column ++ codes ": "
 
 -- the text of a line, and carets under some of its octets
-abbrev pub excerpt_of : List ℕ → ℕ → ℕ → List ℕ
-excerpt_of [] column width = []
-excerpt_of (b ∷ bs) column width =
+abbrev pub underlined : List ℕ → ℕ → ℕ → List ℕ
+underlined [] column width = []
+underlined (b ∷ bs) column width =
     codes "    " ++ printable (b ∷ bs) ++ 10 ∷ codes "    " ++ flat_map pad (take (column - 1) (b ∷ bs)) ++ carets width ++ 10 ∷ []
 
-abbrev pub excerpt : Place → List ℕ
-excerpt p = excerpt_of (string_bytes p.text) p.column p.width
+abbrev pub excerpt_text : Excerpt → List ℕ
+excerpt_text e = underlined (string_bytes e.text) e.column e.width
 
 -- the line of a hint
 abbrev pub hint_line : List ℕ → List ℕ
@@ -40,5 +40,5 @@ hint_line hint = codes "hint: " ++ printable hint ++ 10 ∷ []
 -- the text of an error in the file at a path
 abbrev pub diagnostic_text : List ℕ → Diagnostic → List ℕ
 diagnostic_text path d =
-    location path d.place ++ printable (string_bytes d.message) ++ 10 ∷ option_map_or excerpt d.place []
+    location path d.excerpt ++ printable (string_bytes d.message) ++ 10 ∷ option_map_or excerpt_text d.excerpt []
     ++ option_map_or (λ hint. hint_line (string_bytes hint)) d.hint []

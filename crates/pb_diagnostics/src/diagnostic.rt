@@ -3,18 +3,18 @@
 ghost use Rattle.std.specs.Prelude.{◌≡◌, ◌++◌, string_bytes, option_copied, OnOk};
 ghost use Rattle.std.specs.List.{flat_map};
 ghost use Rattle.pb_printable.specs.Printable.{printable, IsOneLine};
-ghost use Rattle.pb_diagnostics.specs.Texts.{pad, carets, location, excerpt, hint_line, diagnostic_text};
+ghost use Rattle.pb_diagnostics.specs.Texts.{pad, carets, location, excerpt_text, hint_line, diagnostic_text};
 ghost use Rattle.pb_diagnostics.specs.PrintedLines.{ArePrintedLines};
 
-use crate::place::{Place, is_first_octet};
+use crate::excerpt::{Excerpt, is_first_octet};
 use pb_printable::put_printable;
 use std::alloc::AllocError;
 
 /// An error in a file.
 #[derive(Drop)]
 pub struct Diagnostic {
-    /// Its place, if it has one.
-    pub place: Option<Place>,
+    /// The line and the octets that are wrong, if it has some.
+    pub excerpt: Option<Excerpt>,
     /// What is wrong.
     pub message: String,
     /// What was probably meant, or where the other part is.
@@ -66,17 +66,17 @@ fn put_carets(out: &mut String, count: usize) -> Result<(), AllocError>
 }
 
 /// Appends the path of a file with line and column, if there are some.
-#[tactic(auto, using(crate::proofs::PrintedLemmas::place_printed, crate::proofs::PrintedLemmas::path_printed))]
-fn put_location(out: &mut String, path: &str, place: Option<&Place>) -> Result<(), AllocError>
+#[tactic(auto, using(crate::proofs::PrintedLemmas::location_printed, crate::proofs::PrintedLemmas::path_printed))]
+fn put_location(out: &mut String, path: &str, excerpt: Option<&Excerpt>) -> Result<(), AllocError>
     ensures text { OnOk result (string_bytes out.new ≡ string_bytes out.old
-        ++ location path.now (option_copied place.entry)) }
-    ensures printed { OnOk result (IsOneLine (location path.now (option_copied place.entry))) }
+        ++ location path.now (option_copied excerpt.entry)) }
+    ensures printed { OnOk result (IsOneLine (location path.now (option_copied excerpt.entry))) }
 {
     put_text(out, path)?;
-    match place {
-        Some(place) => {
-            let line = place.line;
-            let column = place.column;
+    match excerpt {
+        Some(excerpt) => {
+            let line = excerpt.line;
+            let column = excerpt.column;
             write!(out, ":{line}:{column}: ")?;
         }
         None => out.push_str(": ")?,
@@ -84,20 +84,20 @@ fn put_location(out: &mut String, path: &str, place: Option<&Place>) -> Result<(
     Ok(())
 }
 
-/// Appends the line of a place, with carets under its octets. Nothing if the line has no text.
-fn put_excerpt(out: &mut String, place: &Place) -> Result<(), AllocError>
-    ensures { OnOk result (string_bytes out.new ≡ string_bytes out.old ++ excerpt place.now) }
+/// Appends the line of an excerpt, with carets under its octets. Nothing if the line has no text.
+fn put_excerpt(out: &mut String, excerpt: &Excerpt) -> Result<(), AllocError>
+    ensures { OnOk result (string_bytes out.new ≡ string_bytes out.old ++ excerpt_text excerpt.now) }
 {
-    let text = place.text.as_str();
+    let text = excerpt.text.as_str();
     if text.is_empty() {
         return Ok(());
     }
     out.push_str("    ")?;
     put_text(out, text)?;
     out.push_str("\n    ")?;
-    let before = place.column.saturating_sub(1).min(text.len());
+    let before = excerpt.column.saturating_sub(1).min(text.len());
     put_padding(out, &text.as_bytes()[..before])?;
-    put_carets(out, place.width)?;
+    put_carets(out, excerpt.width)?;
     out.push_str("\n")?;
     Ok(())
 }
@@ -131,11 +131,11 @@ pub fn put_diagnostic(
         ++ diagnostic_text path.now diagnostic.now) }
     ensures lines { OnOk result (ArePrintedLines (diagnostic_text path.now diagnostic.now)) }
 {
-    put_location(out, path, diagnostic.place.as_ref())?;
+    put_location(out, path, diagnostic.excerpt.as_ref())?;
     put_text(out, diagnostic.message.as_str())?;
     out.push_str("\n")?;
-    if let Some(place) = &diagnostic.place {
-        put_excerpt(out, place)?;
+    if let Some(excerpt) = &diagnostic.excerpt {
+        put_excerpt(out, excerpt)?;
     }
     if let Some(hint) = &diagnostic.hint {
         put_hint(out, hint.as_str())?;

@@ -1,12 +1,14 @@
 -- The depth of a document. JSON is read back if it nests at most 127 deep.
-use Rattle.std.proofs.Common.{ℕ, ◌≤◌, List, [], ◌∷◌, ◌++◌, map, length, ◌==◌, Bool, true, false, if◌then◌else◌, Option, Some, None}
+use Rattle.std.proofs.Common.{ℕ, ◌≤◌, List, [], ◌∷◌, ◌++◌, map, length, ◌==◌, Bool, true, false, if◌then◌else◌}
+use Rattle.std.proofs.Common.{Option, Some, None}
 use Rattle.std.proofs.Common.{unwrap_or, Vec, Global, Bor, Ordering, Less, Equal, Greater, nat_cmp, arith}
 use Rattle.std.specs.Cmp.Lexicographic.{slice_cmp}
 use Rattle.std.specs.Ordering.{match_ordering}
 use Rattle.serde_json.specs.Data.{Data, null, object, string, number, unsigned, Members, no_members, member, put, depth}
 use Rattle.serde_json.specs.Data.{items_depth, members_depth}
 use Rattle.serde_json.specs.View.{items_of}
-use Rattle.pb_export.specs.Documents.{said_data, list_data, words_data, arrays_data, field_data, put_some, with_fields, is_at}
+use Rattle.pb_export.specs.Documents.{said_data, list_data, words_data, arrays_data, field_data, put_some}
+use Rattle.pb_export.specs.Documents.{with_fields, is_at}
 use Rattle.pb_export.specs.Documents.{is_in, is_bare, row_data, first_data, inner_items, with_inner, item_data}
 use Rattle.pb_export.specs.Documents.{objects_of}
 use Rattle.pb_export.specs.Documents.{values_of, some_list, first_item, list_entry, with_lists, with_top}

@@ -5,7 +5,7 @@ ghost use Rattle.csv.specs.Writing.{row_text as csv_line};
 ghost use Rattle.serde_json.specs.Read.{read};
 ghost use Rattle.pb_export.specs.Documents.{document_of};
 ghost use Rattle.pb_export.specs.Heads.{head_text};
-ghost use Rattle.pb_export.specs.Rows.{report_text};
+ghost use Rattle.pb_export.specs.Rows.{AreRows};
 ghost use Rattle.pb_export.specs.Tables.{rows_text, writer};
 ghost use Rattle.pb_export.specs.declared.rows.Row.{Row};
 
@@ -42,24 +42,26 @@ const HEAD_TEXT: &str =
     "{\n  \"command\": \"any\",\n  \"version\": \"1.2.3\",\n  \"plan\": \"a \\\"plan\\\".toml\",\n";
 
 /// Calls `json_of` with what a caller may conclude: the JSON is the text of the head, and a rest that is read back as
-/// the document of some rows after a bracket, and these rows give back the report.
+/// the document of some rows after a bracket. These are the lines of the report, each read by the first template that
+/// it fits.
 fn documented(
     alloc: Global,
     form: &Form,
     head: &Head<'_>,
     text: &str,
 ) -> Result<String, FormatFault>
-    ensures { IfOk result (λ json. (rows : List Row) × (rest : List ℕ) × (text.now ≡ report_text rows)
+    ensures { IfOk result (λ json. (rows : List Row) × (rest : List ℕ)
+        × AreRows form.now.templates.now text.now rows
         × (string_bytes json ≡ head_text head.now ++ rest)
         × (read (codes "{\n" ++ rest) ≡ Some (document_of form.now rows))) }
 {
     json_of(alloc, form, head, text)
 }
 
-/// Calls `csv_of` with what a caller may conclude: a line of titles and the lines of some rows, and these give back the
-/// report.
+/// Calls `csv_of` with what a caller may conclude: a line of titles and the lines of some rows. These are the lines of
+/// the report, each read by the first template that it fits.
 fn tabulated(alloc: Global, form: &Form, table: &Table, text: &str) -> Result<Vec<u8>, FormatFault>
-    ensures { IfOk result (λ csv. (rows : List Row) × (text.now ≡ report_text rows)
+    ensures { IfOk result (λ csv. (rows : List Row) × AreRows form.now.templates.now text.now rows
         × (csv.items ≡ csv_line writer (map (λ t. t.now) table.now.titles.now) ++ rows_text table.now.lines.now rows)) }
 {
     csv_of(alloc, form, table, text)

@@ -251,3 +251,279 @@ bridge = "Campus"
 port = 5
 service = "surveillance"
 "#;
+
+/// A plan of two bridges with a service at both and another at one: the example `two-bridges`.
+pub const TWO_BRIDGES: &str =
+    r#"# Two bridges with one link. Two customers of the service red, one of blue.
+
+[[bridge]]
+name = "B1"
+address = "02-00-00-00-00-01"
+
+[[bridge]]
+name = "B2"
+address = "02-00-00-00-00-02"
+
+[[link]]
+name = "L1"
+a = "B1"
+a_port = 1
+b = "B2"
+b_port = 1
+
+[[service]]
+name = "red"
+vid = 100
+
+[[service]]
+name = "blue"
+vid = 200
+
+[[port]]
+name = "C1"
+bridge = "B1"
+port = 2
+service = "red"
+
+[[port]]
+name = "C2"
+bridge = "B2"
+port = 2
+service = "red"
+
+[[port]]
+name = "C3"
+bridge = "B2"
+port = 3
+service = "blue"
+"#;
+
+/// A plan of two sites as on one wire: the example `e-line`.
+pub const E_LINE: &str =
+    r#"# An E-Line: two sites of a customer, joined as by a wire. What one sends the other gets octet for octet,
+# the customer's own BPDUs and tags too; an address that bridges keep to themselves is filtered.
+
+[[bridge]]
+name = "West"
+address = "02-00-00-00-00-01"
+
+[[bridge]]
+name = "East"
+address = "02-00-00-00-00-02"
+
+[[link]]
+name = "trunk"
+a = "West"
+a_port = 1
+b = "East"
+b_port = 1
+
+[[service]]
+name = "line"
+vid = 1000
+
+[[port]]
+name = "plant"
+bridge = "West"
+port = 2
+service = "line"
+
+[[port]]
+name = "warehouse"
+bridge = "East"
+port = 2
+service = "line"
+"#;
+
+/// A plan of four sites around a hub: the example `e-lan`.
+pub const E_LAN: &str =
+    r#"# An E-LAN over four sites, around one hub. The first frame for a station goes to all sites; once the
+# station has answered, frames for it go to its site alone.
+
+[[bridge]]
+name = "Hub"
+address = "02-00-00-00-00-01"
+
+[[bridge]]
+name = "North"
+address = "02-00-00-00-00-02"
+
+[[bridge]]
+name = "South"
+address = "02-00-00-00-00-03"
+
+[[bridge]]
+name = "Coast"
+address = "02-00-00-00-00-04"
+
+[[link]]
+name = "north"
+a = "Hub"
+a_port = 1
+b = "North"
+b_port = 1
+
+[[link]]
+name = "south"
+a = "Hub"
+a_port = 2
+b = "South"
+b_port = 1
+
+[[link]]
+name = "coast"
+a = "Hub"
+a_port = 3
+b = "Coast"
+b_port = 1
+
+[[service]]
+name = "lan"
+vid = 500
+
+[[port]]
+name = "head-office"
+bridge = "Hub"
+port = 4
+service = "lan"
+
+[[port]]
+name = "branch-north"
+bridge = "North"
+port = 2
+service = "lan"
+
+[[port]]
+name = "branch-south"
+bridge = "South"
+port = 2
+service = "lan"
+
+[[port]]
+name = "branch-coast"
+bridge = "Coast"
+port = 2
+service = "lan"
+"#;
+
+/// A plan of two parallel links, one for each service: the example `parallel`.
+pub const PARALLEL: &str =
+    r#"# Two parallel links, one for each service: as each carries its own service alone, neither closes a ring, and
+# both are used. Then the port of one is set down, and the other is not used in its place.
+
+[[bridge]]
+name = "Left"
+address = "02-00-00-00-00-01"
+
+[[bridge]]
+name = "Right"
+address = "02-00-00-00-00-02"
+
+[[link]]
+name = "upper"
+a = "Left"
+a_port = 1
+b = "Right"
+b_port = 1
+a_services = ["red"]
+b_services = ["red"]
+
+[[link]]
+name = "lower"
+a = "Left"
+a_port = 2
+b = "Right"
+b_port = 2
+a_services = ["blue"]
+b_services = ["blue"]
+
+[[service]]
+name = "red"
+vid = 100
+
+[[service]]
+name = "blue"
+vid = 200
+
+[[port]]
+name = "red-left"
+bridge = "Left"
+port = 3
+service = "red"
+
+[[port]]
+name = "red-right"
+bridge = "Right"
+port = 3
+service = "red"
+
+[[port]]
+name = "blue-left"
+bridge = "Left"
+port = 4
+service = "blue"
+
+[[port]]
+name = "blue-right"
+bridge = "Right"
+port = 4
+service = "blue"
+"#;
+
+/// A plan with ports of several kinds: the example `plan-file`.
+pub const PLAN_FILE: &str = r#"[network]
+ageing = 300
+
+[[bridge]]
+name = "B1"
+address = "02-00-00-00-00-01"
+
+[[bridge]]
+name = "B2"
+address = "02-00-00-00-00-02"
+
+[[link]]
+name = "L1"
+a = "B1"
+a_port = 1
+b = "B2"
+b_port = 1
+
+[[service]]
+name = "red"
+vid = 100
+
+[[service]]
+name = "blue"
+vid = 200
+
+[[port]]
+name = "C1"
+bridge = "B1"
+port = 2
+service = "red"
+in = ["ffffffffffff02000000010108004142"]
+
+[[port]]
+name = "C2"
+bridge = "B2"
+port = 2
+service = "red"
+kind = "capture"
+read = "c2-in.pcap"
+write = "c2-out.pcap"
+
+[[port]]
+name = "C3"
+bridge = "B2"
+port = 3
+service = "blue"
+kind = "socket"
+path = "c3.sock"
+
+[[port]]
+name = "C4"
+bridge = "B1"
+port = 3
+service = "blue"
+"#;

@@ -49,7 +49,8 @@ impl Net {
     ///
     /// The bridges are settled if each link with both ends enabled has exactly one Designated end, the other end stores
     /// what that one offers, an end that is enabled alone is Designated, each port has the role that follows from the
-    /// vectors, and only Root and Designated ports are Forwarding. The result holds for this moment: later steps may change it.
+    /// vectors, and only Root and Designated ports are Forwarding. The result holds for this moment: later steps may
+    /// change it.
     ///
     /// # Errors
     ///

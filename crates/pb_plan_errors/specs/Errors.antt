@@ -4,11 +4,11 @@ use Rattle.std.specs.List.{AllByRecursion}
 use Rattle.std.specs.Str.{IsUtf8}
 use Rattle.toml.specs.Data.{Members}
 use Rattle.toml.specs.Parse.{parse_document}
-use Rattle.pb_diagnostics.specs.Places.{IsPlace}
+use Rattle.pb_diagnostics.specs.Excerpts.{IsExcerpt}
 use Rattle.pb_diagnostics.specs.Statements.{LacksSite}
 use Rattle.pb_diagnostics.specs.declared.diagnostic.Diagnostic.{Diagnostic}
 use Rattle.pb_diagnostics.specs.declared.mark.Mark.{Mark}
-use Rattle.pb_diagnostics.specs.declared.place.Place.{Place}
+use Rattle.pb_diagnostics.specs.declared.excerpt.Excerpt.{Excerpt}
 use Rattle.pb_plan_errors.specs.Findings.{IsFinding, has_path}
 use Rattle.pb_plan_errors.specs.Hints.{IsPrintedHint}
 use Rattle.pb_plan_errors.specs.Marks.{IsMarkOf}
@@ -23,32 +23,32 @@ use Rattle.pb_service.specs.declared.fault.PlanFault.TheVariants.{Utf8, Toml, Me
 abbrev pub AreMarked : List ℕ → Finding → Option Mark → Type 0
 AreMarked file f m = MatchOption m (LacksSite file f.shown) (IsMarkOf file f.shown f.part)
 
--- the place of marked octets, if there are some
-abbrev pub IsPlaced : List ℕ → Option Mark → Option Place → Type 0
-IsPlaced file None p = p ≡ None
-IsPlaced file (Some m) None = ⊥
-IsPlaced file (Some m) (Some p) = IsPlace file m p
+-- the excerpt of marked octets, if there are some
+abbrev pub IsExcerptOf : List ℕ → Option Mark → Option Excerpt → Type 0
+IsExcerptOf file None e = e ≡ None
+IsExcerptOf file (Some m) None = ⊥
+IsExcerptOf file (Some m) (Some e) = IsExcerpt file m e
 
 -- the text is empty, or that of the marked octets
 abbrev pub IsMarkedText : List ℕ → Option Mark → List ℕ → Type 0
 IsMarkedText file None text = text ≡ []
 IsMarkedText file (Some m) text = (text ≡ []) ⊎ (text ≡ take (m.to - m.from) (drop m.from file))
 
--- the error for a fault of a document at a key or table: its place in the file, its message and its hint
+-- the error for a fault of a document at a key or table: its excerpt of the file, its message and its hint
 pub record IsFoundError (file : List ℕ) (document : Members) (fault : PlanFault) (e : Diagnostic) : Type 0 where
   pub finding : Finding
   pub found : IsFinding document fault finding
   pub mark : Option Mark
   pub marked : AreMarked file finding mark
-  pub placed : IsPlaced file mark e.place
+  pub excerpt : IsExcerptOf file mark e.excerpt
   pub value : List ℕ
   pub value_is : IsMarkedText file mark value
   pub message : IsPrintedMessage document fault finding.about value (string_bytes e.message)
   pub hint : IsPrintedHint file document fault finding (option_map string_bytes e.hint)
 
--- an error without place and hint
+-- an error without excerpt and hint
 pub record IsBare (e : Diagnostic) : Type 0 where
-  pub place : e.place ≡ None
+  pub excerpt : e.excerpt ≡ None
   pub hint : e.hint ≡ None
 
 -- the error for a fault of a document; that of a fault about the key of a path has a key or table
@@ -58,7 +58,7 @@ IsDocumentError file document fault e = IsFoundError file document fault e ⊎ (
 -- the error at some octets of a file, without a hint
 pub record IsTextError (file : List ℕ) (e : Diagnostic) : Type 0 where
   pub mark : Mark
-  pub placed : IsPlaced file (Some mark) e.place
+  pub excerpt : IsExcerptOf file (Some mark) e.excerpt
   pub hint : e.hint ≡ None
 
 -- the error for a fault of a file, if the file is a document

@@ -1,12 +1,12 @@
 -- The octets of a key or table in a file.
 use Rattle.std.specs.Prelude.{◌≡◌, ℕ, List}
 use Rattle.pb_diagnostics.specs.Marks.{IsMark}
-use Rattle.pb_diagnostics.specs.Places.{IsPlace}
+use Rattle.pb_diagnostics.specs.Excerpts.{IsExcerpt}
 use Rattle.pb_diagnostics.specs.Statements.{IsStatement}
 use Rattle.pb_diagnostics.specs.declared.mark.Mark.{Mark}
 use Rattle.pb_diagnostics.specs.declared.mark.Part.{Part}
 use Rattle.pb_diagnostics.specs.declared.mark.Part.TheVariants.{Whole}
-use Rattle.pb_diagnostics.specs.declared.place.Place.{Place}
+use Rattle.pb_diagnostics.specs.declared.excerpt.Excerpt.{Excerpt}
 use Rattle.pb_diagnostics.specs.declared.site.Site.{Site}
 use Rattle.pb_diagnostics.specs.declared.statement.Statement.{Statement}
 
@@ -20,6 +20,6 @@ pub record IsMarkOf (file : List ℕ) (site : Site) (part : Part) (m : Mark) : T
 pub record IsLineOf (file : List ℕ) (site : Site) (line : ℕ) : Type 0 where
   pub mark : Mark
   pub marks : IsMarkOf file site Whole mark
-  pub place : Place
-  pub placed : IsPlace file mark place
-  pub line_is : line ≡ place.line
+  pub excerpt : Excerpt
+  pub excerpt_is : IsExcerpt file mark excerpt
+  pub line_is : line ≡ excerpt.line

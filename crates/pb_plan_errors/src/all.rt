@@ -8,7 +8,7 @@ ghost use Rattle.pb_plan_errors.specs.Repairs.{IsRefused, IsSame};
 
 use crate::error::{document_error, fault_of, plan_error};
 use crate::repair::repair;
-use pb_diagnostics::{Diagnostic, Place};
+use pb_diagnostics::{Diagnostic, Excerpt};
 use pb_frame::Memory;
 use pb_service::PlanFault;
 use std::alloc::Global;
@@ -55,10 +55,10 @@ fn read_again(alloc: Global, document: &Table) -> Result<Option<Refused>, Memory
     }
 }
 
-/// Returns line and column of a place, or 0 and 0.
-fn line_and_column(place: Option<&Place>) -> (usize, usize) {
-    match place {
-        Some(place) => (place.line, place.column),
+/// Returns line and column of an excerpt, or 0 and 0.
+fn line_and_column(excerpt: Option<&Excerpt>) -> (usize, usize) {
+    match excerpt {
+        Some(excerpt) => (excerpt.line, excerpt.column),
         None => (0, 0),
     }
 }
@@ -68,7 +68,7 @@ fn is_again(errors: &[Diagnostic], error: &Diagnostic) -> bool {
     let Some(last) = errors.last() else {
         return false;
     };
-    line_and_column(last.place.as_ref()) == line_and_column(error.place.as_ref())
+    line_and_column(last.excerpt.as_ref()) == line_and_column(error.excerpt.as_ref())
         && last.message.as_str() == error.message.as_str()
 }
 

@@ -3,7 +3,7 @@
 ghost use Rattle.std.specs.Prelude.{◌≡◌, ◌≢◌, ◌⊎◌, ◌-◌, [], codes, take, drop, string_bytes};
 ghost use Rattle.std.specs.Prelude.{IfOk, OnOk, MatchOption, option_copied, option_map};
 ghost use Rattle.toml.specs.View.{table_view};
-ghost use Rattle.pb_plan_errors.specs.Errors.{IsPlaced, IsMarkedText, IsFoundError, IsBare, IsDocumentError};
+ghost use Rattle.pb_plan_errors.specs.Errors.{IsExcerptOf, IsMarkedText, IsFoundError, IsBare, IsDocumentError};
 ghost use Rattle.pb_plan_errors.specs.Errors.{IsTextError, IsErrorIn, IsFaultError, IsFaultOf, IsFirstError};
 ghost use Rattle.pb_plan_errors.specs.Findings.{IsFinding};
 ghost use Rattle.pb_plan_errors.specs.Hints.{IsPrintedHint};
@@ -16,7 +16,7 @@ use crate::finding::{Finding, finding_of};
 use crate::hint::hint_of;
 use crate::marking::mark_at;
 use crate::message::put_message;
-use pb_diagnostics::{Diagnostic, Mark, Part, Place, Site, place_of};
+use pb_diagnostics::{Diagnostic, Excerpt, Mark, Part, Site, excerpt_of};
 use pb_frame::Memory;
 use pb_printable::put_printable;
 use pb_service::{PlanFault, read_plan};
@@ -28,7 +28,7 @@ fn error_at(alloc: Global, file: &[u8], mark: &Mark, text: &str) -> Result<Diagn
     ensures { IfOk result (λ e. IsTextError file.now e × (string_bytes e.message ≡ text.now)) }
 {
     Ok(Diagnostic {
-        place: Some(place_of(alloc, file, mark)?),
+        excerpt: Some(excerpt_of(alloc, file, mark)?),
         message: String::from_str(alloc, text)?,
         hint: None,
     })
@@ -111,13 +111,13 @@ fn value_text<'a>(file: &'a [u8], part: Part, mark: Option<&Mark>) -> &'a str
     }
 }
 
-/// Returns the place of some octets, if there are some.
-fn place_at(alloc: Global, file: &[u8], mark: Option<&Mark>) -> Result<Option<Place>, Memory>
-    ensures { IfOk result (IsPlaced file.now (option_copied mark.entry)) }
+/// Returns the excerpt for some octets, if there are some.
+fn excerpt_at(alloc: Global, file: &[u8], mark: Option<&Mark>) -> Result<Option<Excerpt>, Memory>
+    ensures { IfOk result (IsExcerptOf file.now (option_copied mark.entry)) }
 {
     match mark {
         None => Ok(None),
-        Some(mark) => Ok(Some(place_of(alloc, file, mark)?)),
+        Some(mark) => Ok(Some(excerpt_of(alloc, file, mark)?)),
     }
 }
 
@@ -177,7 +177,7 @@ fn found_error(
     let mark = mark_at(alloc, file, finding.shown, finding.part)?;
     let value = value_text(file, finding.part, mark.as_ref());
     Ok(Diagnostic {
-        place: place_at(alloc, file, mark.as_ref())?,
+        excerpt: excerpt_at(alloc, file, mark.as_ref())?,
         message: message_of(alloc, document, fault, finding.about, value)?,
         hint: printed_hint(alloc, file, document, fault, finding)?,
     })
@@ -189,7 +189,7 @@ fn bare_error(alloc: Global, fault: &PlanFault) -> Result<Diagnostic, Memory>
 {
     let text = format!(in alloc; "{fault}")?;
     Ok(Diagnostic {
-        place: None,
+        excerpt: None,
         message: printable(alloc, text.as_str())?,
         hint: None,
     })
@@ -223,8 +223,8 @@ fn error_in(alloc: Global, file: &[u8], fault: &PlanFault) -> Result<Diagnostic,
 
 /// Returns the error for a fault of a plan file.
 ///
-/// It has the place of the key or table in the file, if there is one. A file that isn't a document has the place at
-/// which reading stopped.
+/// Its excerpt is the line of the key or table in the file, if there is one. If the file isn't a document, it is the
+/// line at which reading stopped.
 ///
 /// # Errors
 ///
@@ -271,7 +271,7 @@ pub(crate) fn fault_of(alloc: Global, file: &[u8]) -> Result<Option<PlanFault>, 
     }
 }
 
-/// Returns the error of a plan file: its first fault with place, message and hint. `None` if the file is a plan.
+/// Returns the error of a plan file: its first fault with excerpt, message and hint. `None` if the file is a plan.
 ///
 /// # Errors
 ///

@@ -1,7 +1,7 @@
-//! The errors of a plan file, each with its place, a message and a hint.
+//! The errors of a plan file, each with its line, a message and a hint.
 //!
-//! It builds on pb_service for the rules of a plan file and on pb_diagnostics for places. Begin with [`plan_error`] in
-//! `error.rt`, then [`plan_errors`] in `all.rt`.
+//! It builds on pb_service for the rules of a plan file and on pb_diagnostics for excerpts. Begin with [`plan_error`]
+//! in `error.rt`, then [`plan_errors`] in `all.rt`.
 #![tactic(auto)]
 
 mod all;

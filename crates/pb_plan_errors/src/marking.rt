@@ -4,7 +4,7 @@ ghost use Rattle.std.specs.Prelude.{IfOk, IfSome, MatchOption};
 ghost use Rattle.pb_diagnostics.specs.Statements.{LacksSite};
 ghost use Rattle.pb_plan_errors.specs.Marks.{IsMarkOf, IsLineOf};
 
-use pb_diagnostics::{Mark, Part, Site, mark_of, place_of, statement_of};
+use pb_diagnostics::{Mark, Part, Site, excerpt_of, mark_of, statement_of};
 use pb_frame::Memory;
 use std::alloc::Global;
 
@@ -37,6 +37,6 @@ pub(crate) fn line_of(alloc: Global, file: &[u8], site: Site<'_>) -> Result<Opti
 {
     match mark_at(alloc, file, site, Part::Whole)? {
         None => Ok(None),
-        Some(mark) => Ok(Some(place_of(alloc, file, &mark)?.line)),
+        Some(mark) => Ok(Some(excerpt_of(alloc, file, &mark)?.line)),
     }
 }

@@ -96,7 +96,7 @@ fn put_all(
     Ok(warnings.len())
 }
 
-/// Checks that a file was not refused for want of memory.
+/// Checks that a file was not refused because an allocation failed.
 ///
 /// # Errors
 ///

@@ -59,12 +59,13 @@ pub(crate) fn print_fault(
     }
 }
 
-/// Appends the line from which a document has an error: place, path, message and hint, with tabs between the texts.
+/// Appends the line from which a document has an error: line and column, path, message and hint, with tabs between the
+/// texts.
 fn put_row(rows: &mut String, path: &str, error: &Diagnostic) -> Result<(), Memory> {
     rows.push_str("error: ")?;
-    if let Some(place) = &error.place {
-        let line = place.line;
-        let column = place.column;
+    if let Some(excerpt) = &error.excerpt {
+        let line = excerpt.line;
+        let column = excerpt.column;
         write!(rows, "{line}:{column}: ")?;
     }
     put_printable(rows, path)?;

@@ -129,7 +129,7 @@ pub(crate) fn report<R: Files + Threads + Clock + Print + Eprint + AllocGlobal +
     let asked = asked_of(options, &old);
     let mut page = Vec::new(rt.alloc());
     match run_report(rt, rt.alloc(), file.as_slice(), &asked, &looks, &mut page) {
-        // (a write into memory fails for want of memory)
+        // (a write into memory fails only if an allocation failed)
         Err(CommandFault::Write) => tell(rt, CommandFault::Memory),
         Err(fault) => tell(rt, fault),
         Ok(end) => match put(rt, options, end, page.as_slice(), &mut out) {

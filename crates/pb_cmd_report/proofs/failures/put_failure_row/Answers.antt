@@ -10,7 +10,7 @@ unfolding failure_row row_of
 returns c =
     let old = string_bytes c.args.out.now in
     let plan = c.args.plan.now in
-    let o = c.args.outcome.now in
+    let o = c.args.analysis.now in
     let s0 = string_bytes c.push_str.new.self in
     let p0 = codes "<tr" in
     let s1 = string_bytes c.put_states.new.out in

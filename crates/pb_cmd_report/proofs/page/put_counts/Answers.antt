@@ -10,18 +10,18 @@ pub returns : goal.returns
 returns c =
     let old = string_bytes c.args.out.now in
     let base = c.args.base.now in
-    let os = c.args.outcomes.now in
+    let os = c.args.analyses.now in
     let one = string_bytes c.put_count.new.out in
     let two = string_bytes c.put_count-2.new.out in
     let three = string_bytes c.put_count-3.new.out in
     let four = string_bytes c.put_count-4.new.out in
     let all = count_words (codes "<p id=\"counts\">Failures analysed: ") (length os) in
     let parting = count_words (codes ". With a disconnected service: ")
-    (count_by (λ o. parts criteria base.impact o.impact) os) in
-    let looping = count_words (codes ". With a forwarding loop: ") (count_by (λ o. not (are_forests o.impact.views)) os)
+    (count_by (λ a. parts criteria base.impact a.impact) os) in
+    let looping = count_words (codes ". With a forwarding loop: ") (count_by (λ a. not (are_forests a.impact.views)) os)
     in
     let unsettled = count_words (codes ". Without convergence: ")
-    (count_by (λ o. not (is_settled o.impact.rest)) os) in
+    (count_by (λ a. not (is_settled a.impact.rest)) os) in
     let counted = c.in_ok-put_count.ensures in
     let parted = with_piece old one two all parting counted
     (rw c.count_parting-parting.ensures at c.in_ok-put_count-2.ensures) in

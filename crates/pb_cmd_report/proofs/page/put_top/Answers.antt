@@ -8,7 +8,7 @@ pub returns : goal.returns
 returns c =
     let old = string_bytes c.args.out.now in
     let head = head_text c.args.title.now in
-    let counts = counts_text c.args.base.now c.args.outcomes.now in
+    let counts = counts_text c.args.base.now c.args.analyses.now in
     let before = BEFORE_PICTURE.now in
     let drawn = c.in_ok-put_picture.ensures in
     let one = string_bytes c.put_head.new.out in

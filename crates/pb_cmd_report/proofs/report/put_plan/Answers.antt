@@ -1,7 +1,7 @@
 use Rattle.std.proofs.Common.{[]}
 use Rattle.std.proofs.lemmas.Result.{on_ok_weaker}
 use Rattle.pb_cmd_survive.proofs.StandingLemmas.{moved}
-use Rattle.pb_cmd_report.specs.Outcomes.{patience_of}
+use Rattle.pb_cmd_report.specs.Analyses.{patience_of}
 use Rattle.pb_cmd_report.specs.Pages.{IsPage}
 use Rattle.pb_cmd_report.proofs.report.put_plan.Goals as goal
 

@@ -1,18 +1,18 @@
-//! A place of a text, with its line.
+//! One line of a text, and the octets of it that are meant.
 
 ghost use Rattle.std.specs.Prelude.{◌≡◌, ◌≤◌, ◌==◌, count_by, length, max, slice_range, IfOk};
 ghost use Rattle.std.specs.Str.{IsUtf8};
 ghost use Rattle.pb_diagnostics.specs.Lines.{first_line};
-ghost use Rattle.pb_diagnostics.specs.Places.{is_first_octet, characters, last_length, line_at, start_in, end_in};
-ghost use Rattle.pb_diagnostics.specs.Places.{IsPlace};
+ghost use Rattle.pb_diagnostics.specs.Excerpts.{is_first_octet, characters, last_length, line_at, start_in, end_in};
+ghost use Rattle.pb_diagnostics.specs.Excerpts.{IsExcerpt};
 
 use crate::line::first_line;
 use crate::mark::Mark;
 use std::alloc::{AllocError, Global};
 
-/// A place of a text: some octets of one of its lines.
+/// One line of a text, and the octets of it that are meant.
 #[derive(Drop)]
-pub struct Place {
+pub struct Excerpt {
     /// The line, counted from 1.
     pub line: usize,
     /// The first octet in its line, counted from 1.
@@ -94,17 +94,17 @@ fn width_of(file: &[u8], mark: &Mark) -> usize
     characters(first_line(&file[start_in(file, mark)..end_in(file, mark)])).max(1)
 }
 
-/// Returns the place of some octets of a file.
+/// Returns the line of a file that has some octets, and which characters of it they are.
 ///
 /// # Errors
 ///
 /// `AllocError` if an allocation failed.
-pub fn place_of(alloc: Global, file: &[u8], mark: &Mark) -> Result<Place, AllocError>
-    ensures { IfOk result (IsPlace file.now mark.now) }
+pub fn excerpt_of(alloc: Global, file: &[u8], mark: &Mark) -> Result<Excerpt, AllocError>
+    ensures { IfOk result (IsExcerpt file.now mark.now) }
 {
     let from = start_in(file, mark);
     let before = &file[..from];
-    Ok(Place {
+    Ok(Excerpt {
         line: ended_lines(before) + 1,
         column: last_length(before) + 1,
         width: width_of(file, mark),

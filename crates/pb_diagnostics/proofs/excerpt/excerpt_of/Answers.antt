@@ -1,7 +1,7 @@
 use Rattle.std.proofs.Common.{◌≡◌, ◌∙◌, ap, sym, subst, rules}
 use Rattle.std.specs.Str.{IsUtf8}
-use Rattle.pb_diagnostics.specs.Places.{line_at, start_in}
-use Rattle.pb_diagnostics.proofs.place.place_of.Goals as goal
+use Rattle.pb_diagnostics.specs.Excerpts.{line_at, start_in}
+use Rattle.pb_diagnostics.proofs.excerpt.excerpt_of.Goals as goal
 
 pub returns : goal.returns
 returns c =

@@ -3,7 +3,7 @@
 ghost use Rattle.std.specs.List.{AllZip};
 ghost use Rattle.std.specs.Prelude.{◌≡◌, IfOk};
 ghost use Rattle.pb_cmd_survive.specs.Impacts.{IsDriven, IsStanding};
-ghost use Rattle.pb_cmd_report.specs.Outcomes.{IsOutcomeOn, IsSeen};
+ghost use Rattle.pb_cmd_report.specs.Analyses.{IsAnalysisOn, IsSeen};
 
 use pb_cmd_survive::{Failure, FailureProgress, Impact, Standing, drive_into, look_each, views};
 use pb_converge::{DriveFault, Rest, shape_of};
@@ -14,14 +14,14 @@ use std::thread::Threads;
 
 /// The impact of a failure, and the states of all ports then.
 #[derive(PartialEq, Debug, Drop)]
-pub struct Outcome {
+pub struct Analysis {
     /// The failure, whether the bridges converged after it, and the state of each service then.
     pub impact: Impact,
     /// The states of all ports then.
     pub shape: Shape,
 }
 
-/// Returns the outcome of a failure from the network after it.
+/// Returns the analysis of a failure from the network after it.
 fn seen_in(
     alloc: Global,
     standing: &Standing<'_>,
@@ -29,7 +29,7 @@ fn seen_in(
     failure: Failure,
     net: Net,
     rest: Rest,
-) -> Result<Outcome, DriveFault>
+) -> Result<Analysis, DriveFault>
     requires up { IsStanding standing.now }
     requires planned { net.plan ≡ standing.now.plan.now }
     ensures { IfOk result (IsSeen standing.now.plan.now services.now failure rest net) }
@@ -38,7 +38,7 @@ fn seen_in(
     let tallies = net.tallies()?;
     let shape = shape_of(alloc, plan, &tallies)?;
     let views = views(alloc, plan, &shape, failure, services)?;
-    Ok(Outcome {
+    Ok(Analysis {
         impact: Impact {
             failure,
             rest,
@@ -48,7 +48,7 @@ fn seen_in(
     })
 }
 
-/// Returns the outcome of a failure on a network that is up, for the services with these numbers: the impact that
+/// Returns the analysis of a failure on a network that is up, for the services with these numbers: the impact that
 /// [`pb_cmd_survive::look_at`] describes, and the states of all ports at its end.
 ///
 /// # Errors
@@ -60,15 +60,15 @@ pub(crate) fn look_at(
     standing: &Standing<'_>,
     services: &[u8],
     failure: Failure,
-) -> Result<Outcome, DriveFault>
+) -> Result<Analysis, DriveFault>
     requires { IsStanding standing.now }
-    ensures { IfOk result (IsOutcomeOn standing.now services.now failure) }
+    ensures { IfOk result (IsAnalysisOn standing.now services.now failure) }
 {
     let (net, rest) = drive_into(alloc, standing, failure)?;
     seen_in(alloc, standing, services, failure, net, rest)
 }
 
-/// Returns the outcomes of several failures, in their order, each as [`look_at`] returns it.
+/// Returns the analyses of several failures, in their order, each as [`look_at`] returns it.
 ///
 /// Failures are analysed in parallel, as [`look_each`] does. `progress.looked` is called after each failure.
 ///
@@ -83,13 +83,13 @@ pub(crate) fn look_at_all<R: Threads + Sync, V: FailureProgress>(
     services: &[u8],
     failures: &[Failure],
     progress: &V,
-) -> Result<Vec<Outcome>, DriveFault>
+) -> Result<Vec<Analysis>, DriveFault>
     requires { IsStanding standing.now }
-    ensures { IfOk result (λ outcomes. AllZip (IsOutcomeOn standing.now services.now) failures.now outcomes.items) }
+    ensures { IfOk result (λ analyses. AllZip (IsAnalysisOn standing.now services.now) failures.now analyses.items) }
 {
-    let look = |failure: Failure| -> Result<Outcome, DriveFault>
+    let look = |failure: Failure| -> Result<Analysis, DriveFault>
         requires { IsStanding standing.now }
-        ensures { IfOk result (IsOutcomeOn standing.entry.now services.entry.now failure) }
+        ensures { IfOk result (IsAnalysisOn standing.entry.now services.entry.now failure) }
     { look_at(alloc, standing, services, failure) };
     look_each(rt, alloc, failures, &look, progress)
 }

@@ -16,32 +16,32 @@ use Rattle.pb_cmd_survive.specs.Views.{AreViews}
 use Rattle.pb_cmd_survive.specs.declared.failure.Failure.{Failure}
 use Rattle.pb_cmd_survive.specs.declared.standing.Patience.{Patience}
 use Rattle.pb_cmd_survive.specs.declared.standing.Standing.{Standing}
-use Rattle.pb_cmd_report.specs.declared.outcome.Outcome.{Outcome}
+use Rattle.pb_cmd_report.specs.declared.analysis.Analysis.{Analysis}
 
 -- the limits on each convergence
 abbrev pub patience_of : ℕ → Patience
 patience_of ticks = record { ticks = ticks; events = most_events }
 
 -- the impact of a failure as `survive` reports it, and the states of all ports in the network of which it speaks
-pub record IsOutcome (plan : Plan) (names : List (String Global)) (services : List ℕ) (most events : ℕ) (failure : Failure) (o : Outcome) : Type 0 where
-  pub is_impact : IsImpact plan names services most events failure o.impact
-  pub shape_is : o.shape ≡ last_shape plan is_impact.last.rec
+pub record IsAnalysis (plan : Plan) (names : List (String Global)) (services : List ℕ) (most events : ℕ) (failure : Failure) (a : Analysis) : Type 0 where
+  pub is_impact : IsImpact plan names services most events failure a.impact
+  pub shape_is : a.shape ≡ last_shape plan is_impact.last.rec
 
--- the outcome of a failure on a network that is up
-abbrev pub IsOutcomeOn : Standing → List ℕ → Failure → Outcome → Type 0
-IsOutcomeOn s services failure o =
-    IsOutcome s.plan.now s.names.now services s.patience.ticks s.patience.events failure o
+-- the analysis of a failure on a network that is up
+abbrev pub IsAnalysisOn : Standing → List ℕ → Failure → Analysis → Type 0
+IsAnalysisOn s services failure a =
+    IsAnalysis s.plan.now s.names.now services s.patience.ticks s.patience.events failure a
 
--- the outcomes of these failures, in their order
-abbrev pub AreOutcomes : Plan → List (String Global) → List ℕ → ℕ → ℕ → List Failure → List Outcome → Type 0
-AreOutcomes plan names services most events failures outcomes =
-    AllZip (IsOutcome plan names services most events) failures outcomes
+-- the analyses of these failures, in their order
+abbrev pub AreAnalyses : Plan → List (String Global) → List ℕ → ℕ → ℕ → List Failure → List Analysis → Type 0
+AreAnalyses plan names services most events failures analyses =
+    AllZip (IsAnalysis plan names services most events) failures analyses
 
 -- what is seen in a network after a failure: its ports, and its services
-pub record IsSeen (plan : Plan) (services : List ℕ) (failure : Failure) (rest : Rest) (net : NetView) (o : Outcome) : Type 0 where
-  pub failed : o.impact.failure ≡ failure
-  pub rested : o.impact.rest ≡ rest
+pub record IsSeen (plan : Plan) (services : List ℕ) (failure : Failure) (rest : Rest) (net : NetView) (a : Analysis) : Type 0 where
+  pub failed : a.impact.failure ≡ failure
+  pub rested : a.impact.rest ≡ rest
   pub lawful : IsLawfulRecord spanning_tree plan net.rec
   pub enough : HasEnoughMemory net.rec
-  pub shape_is : o.shape ≡ last_shape plan net.rec
-  pub views : AreViews plan (last_shape plan net.rec) failure services o.impact.views
+  pub shape_is : a.shape ≡ last_shape plan net.rec
+  pub views : AreViews plan (last_shape plan net.rec) failure services a.impact.views

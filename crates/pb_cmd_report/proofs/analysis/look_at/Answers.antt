@@ -1,7 +1,7 @@
 use Rattle.std.proofs.Common.{sym, subst}
 use Rattle.std.proofs.lemmas.Result.{IfOk-weaker}
 use Rattle.pb_cmd_survive.specs.Impacts.{IsDriven}
-use Rattle.pb_cmd_report.proofs.outcome.look_at.Goals as goal
+use Rattle.pb_cmd_report.proofs.analysis.look_at.Goals as goal
 
 pub returns : goal.returns
 returns c =

@@ -1,9 +1,9 @@
--- A place of a text.
+-- Lines of a text, and the octets of them that are meant.
 use Rattle.std.specs.Prelude.{◌≡◌, ℕ, ◌+◌, ◌-◌, ◌==◌, ◌||◌, not, nat_lt, nat_le, Bool, List, length, take, drop, take_while, reverse, count_by, min, max, slice_range, string_bytes}
 use Rattle.std.specs.Str.{IsUtf8}
 use Rattle.pb_diagnostics.specs.Lines.{first_line}
 use Rattle.pb_diagnostics.specs.declared.mark.Mark.{Mark}
-use Rattle.pb_diagnostics.specs.declared.place.Place.{Place}
+use Rattle.pb_diagnostics.specs.declared.excerpt.Excerpt.{Excerpt}
 
 -- the octet is the first one of a character in UTF-8
 abbrev pub is_first_octet : ℕ → Bool
@@ -35,9 +35,9 @@ start_in file m = min m.from (length file)
 abbrev pub end_in : List ℕ → Mark → ℕ
 end_in file m = max (min m.to (length file)) (start_in file m)
 
--- the place of marked octets: line and column of the first one, the characters up to the end of the line, the line
-pub record IsPlace (file : List ℕ) (m : Mark) (p : Place) : Type 0 where
-  pub line : p.line ≡ line_after (take (start_in file m) file)
-  pub column : p.column ≡ column_after (take (start_in file m) file)
-  pub width : p.width ≡ max (characters (first_line (slice_range file (start_in file m) (end_in file m)))) 1
-  pub text : IsUtf8 (line_at file (start_in file m)) → string_bytes p.text ≡ line_at file (start_in file m)
+-- the excerpt of marked octets: line and column of the first one, the characters up to the end of the line, the line
+pub record IsExcerpt (file : List ℕ) (m : Mark) (e : Excerpt) : Type 0 where
+  pub line : e.line ≡ line_after (take (start_in file m) file)
+  pub column : e.column ≡ column_after (take (start_in file m) file)
+  pub width : e.width ≡ max (characters (first_line (slice_range file (start_in file m) (end_in file m)))) 1
+  pub text : IsUtf8 (line_at file (start_in file m)) → string_bytes e.text ≡ line_at file (start_in file m)
