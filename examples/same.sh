@@ -36,9 +36,11 @@ is_copied() {
 # step: each script with its plan and its whole output. A plan that other tests read too is in pb_fakes.
 for script in *.steps; do
     name=${script%.steps}
+    plan=${name^^}
+    plan=${plan//-/_}
     for part in PLAN:toml STEPS:steps EXPECTED:expected; do
-        if [ "$part" = PLAN:toml ] && grep -q "pub const ${name^^}:" ../crates/pb_fakes/src/plans.rt; then
-            is_constant "${name^^}" ../crates/pb_fakes/src/plans.rt "$name.toml"
+        if [ "$part" = PLAN:toml ] && grep -q "pub const $plan:" ../crates/pb_fakes/src/plans.rt; then
+            is_constant "$plan" ../crates/pb_fakes/src/plans.rt "$name.toml"
         else
             is_copied "${part%:*}" "step/${name//-/_}" pb_commands_tests "$name.${part#*:}"
         fi
@@ -59,7 +61,7 @@ is_copied REASONS examples pb_cmd_flat_tests reasons.txt
 is_copied REASONS_ANSWERS examples pb_cmd_flat_tests reasons.expected
 
 # check and show.
-is_copied PLAN_FILE check/examples pb_commands_tests plan-file.toml
+is_constant PLAN_FILE ../crates/pb_fakes/src/plans.rt plan-file.toml
 is_copied PLAN_FILE_ANSWER check/examples pb_commands_tests plan-file.expected
 is_copied SHOWN check/examples pb_commands_tests show.expected
 
