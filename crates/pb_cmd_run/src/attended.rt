@@ -125,6 +125,10 @@ where
         self.gate.wish(place, now, past)
     }
 
+    fn is_passed_seldom(&self) -> bool {
+        self.gate.is_passed_seldom()
+    }
+
     fn lets_sleep(&self, place: Place) -> bool {
         self.gate.lets_sleep(place)
     }

@@ -229,6 +229,10 @@ impl<G: RunProgress> Gate for Steering<'_, G> {
         self.gate.pass_when_idle(place, turn)
     }
 
+    fn is_passed_seldom(&self) -> bool {
+        self.gate.is_passed_seldom()
+    }
+
     fn lets_sleep(&self, place: Place) -> bool {
         self.gate.lets_sleep(place)
     }

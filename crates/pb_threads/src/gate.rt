@@ -54,6 +54,12 @@ pub trait Gate: Sync {
         self.pass(place, turn)
     }
 
+    /// Checks whether a worker with much to do may pass the gate only before turns whose number is a multiple of 64. It
+    /// then asks for wishes and stations, and reads its clock, as seldom.
+    fn is_passed_seldom(&self) -> bool {
+        false
+    }
+
     /// Returns the next wish for a place, if there is one. The worker fulfils it in place of its next turn, and asks
     /// again. The place's clock has ticked `now` times. A wish is returned once. `past` has the wishes that the gate
     /// returned for the place before and that were fulfilled, in order: contracts alone see it.

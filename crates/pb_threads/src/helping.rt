@@ -9,6 +9,7 @@ use crate::bells::Bells;
 use crate::gate::{Gate, Go};
 use crate::share::Share;
 use crate::slot::{Owned, Roster, Slot};
+use crate::touched::{MOST_PORT, Touched};
 use crate::turns::{Finish, Turn, TurnStatus, Work};
 use crate::words::Words;
 use pb_lan::{Limits, Place};
@@ -17,8 +18,9 @@ use std::time::Clock;
 /// The most places that wait for the help of one worker. The workers of further ones are woken.
 const ERRANDS: usize = 16;
 
-/// The number of turns with something to do in a row after which a worker wakes the others and does not help.
-const BUSY: u32 = 16;
+/// The number of turns with something to do in a row after which a worker wakes the others and does not help. Each wake
+/// costs the time of some dozens of turns.
+const BUSY: u32 = 256;
 
 /// The most turns that a worker takes of another place before it wakes that place's worker.
 const MOST_TURNS: u32 = 64;
@@ -102,12 +104,33 @@ impl Helper {
         self.waited = 0;
     }
 
-    /// Notes the workers beside the worker's own place after a turn with something to do. Wakes them if the worker has
-    /// had something to do for a while.
-    pub(crate) fn after_work<G: Gate>(&mut self, gate: &G, place: Place, port: u8) {
+    /// Notes the workers beside the worker's own place after a turn with something to do, at this port. Wakes them if the
+    /// worker has had something to do for a while.
+    pub(crate) fn after_turn<G: Gate>(&mut self, gate: &G, place: Place, port: u8) {
         self.note_beside(gate, place, port);
+        self.count_turns(gate, 1);
+    }
+
+    /// Does the same after this many turns, which had something to do at these ports.
+    pub(crate) fn after_turns<G: Gate>(
+        &mut self,
+        gate: &G,
+        place: Place,
+        touched: &Touched,
+        turns: u32,
+    ) {
+        for port in 0..=MOST_PORT {
+            if touched.has(port) {
+                self.note_beside(gate, place, port);
+            }
+        }
+        self.count_turns(gate, turns);
+    }
+
+    /// Counts turns of the worker's own place while workers are noted, and wakes them after too many.
+    fn count_turns<G: Gate>(&mut self, gate: &G, turns: u32) {
         if self.count > 0 {
-            self.waited = self.waited.saturating_add(1);
+            self.waited = self.waited.saturating_add(turns);
             if self.waited > BUSY {
                 self.hand_over(gate);
             }

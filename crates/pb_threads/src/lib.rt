@@ -17,6 +17,7 @@ mod showing;
 mod slot;
 mod threads;
 mod ticks;
+mod touched;
 mod turns;
 mod view;
 mod words;

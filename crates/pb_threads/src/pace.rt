@@ -38,10 +38,10 @@ impl Pace {
         is_drowsy: false,
     };
 
-    /// Returns the pace after a turn in which there was something to do.
-    pub(crate) fn after_work(self) -> Pace {
+    /// Returns the pace after this many turns in which there was something to do.
+    pub(crate) fn after_work(self, turns: u32) -> Pace {
         Pace {
-            done: self.done.saturating_add(1),
+            done: self.done.saturating_add(turns),
             ..Pace::START
         }
     }

@@ -109,16 +109,24 @@ impl<K: Roster<T>, T: Work> Owned<K, T> {
         requires { K.gives ≡ G.gives gate.now }
     {
         let place = self.place.place();
-        self.turn = self.turn.saturating_add(1);
         show_stations(&self.place, gate, place);
         match gate.wish(place, self.ticks.last().now, self.past.copied()) {
-            Some(wish) => self.fulfil(wish),
+            Some(wish) => {
+                self.turn = self.turn.saturating_add(1);
+                self.fulfil(wish)
+            }
             None => {
                 let mut moment = self.ticks.next(rt);
                 moment.is_open = moment.is_open && gate.is_open();
-                self.place.turn(moment)
+                self.take_step(moment)
             }
         }
+    }
+
+    /// Takes a turn at this moment. Asks the gate for nothing.
+    pub(crate) fn take_step(&mut self, moment: Moment) -> Turn {
+        self.turn = self.turn.saturating_add(1);
+        self.place.turn(moment)
     }
 
     /// Fulfils a wish that was given for the place after those that it has fulfilled.

@@ -89,6 +89,11 @@ impl Ticks {
         if self.limits.tick_every > 0 { 0 } else { most }
     }
 
+    /// Checks whether the clock ticks by turns.
+    pub(crate) fn counts_turns(&self) -> bool {
+        self.limits.tick_ms == 0 && self.limits.tick_every > 0
+    }
+
     /// Returns the moment after the last turn.
     pub(crate) fn last(&self) -> Moment {
         self.moment(false)

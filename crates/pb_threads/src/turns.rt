@@ -57,6 +57,13 @@ impl Turn {
         port: 0,
         has_stirred: false,
     };
+
+    /// Checks whether the turn changed what is left to do, lost or dropped something, or may have changed what is shown
+    /// of the place's ports.
+    pub(crate) fn is_reported(&self) -> bool {
+        let counts = self.more > 0 || self.fewer > 0;
+        counts || self.refused > 0 || self.dropped.is_some() || self.has_stirred
+    }
 }
 
 /// The reason why a worker takes no more turns.

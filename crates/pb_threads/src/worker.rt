@@ -6,6 +6,7 @@ use crate::gate::Gate;
 use crate::helping::{Helper, is_ended, own_end};
 use crate::pace::{LONG, MOST_IDLE, Pace, SHORT, TURNS};
 use crate::slot::{Owned, Roster, Slot};
+use crate::touched::Touched;
 use crate::turns::{Finish, TurnStatus, Work};
 use crate::words::Words;
 use pb_lan::{Limits, Place};
@@ -16,6 +17,9 @@ use std::time::{Clock, Duration};
 /// The number of turns with something to do after which the first item that met a sleeping worker has gone on from its
 /// place. The worker then helps the places behind it before it looks for more.
 const FIRST: u32 = 2;
+
+/// A worker with much to do passes a gate that allows it only before turns whose number is a multiple of this.
+const STRIDE: u64 = 64;
 
 /// What a worker keeps from turn to turn.
 #[derive(Drop)]
@@ -157,10 +161,48 @@ impl Worker {
                     bells.stay_awake(owned.place());
                 }
             }
-            self.helper.after_work(gate, owned.place(), turned.port);
-            self.pace = self.pace.after_work();
+            self.helper.after_turn(gate, owned.place(), turned.port);
+            self.pace = self.pace.after_work(1);
         }
         turned.status
+    }
+
+    /// Checks whether the worker takes more turns of the place before it passes the gate again.
+    fn is_to_go_on<K: Roster<T>, T: Work, G: Gate>(&self, owned: &Owned<K, T>, gate: &G) -> bool {
+        self.pace.is_busy() && gate.is_passed_seldom() && !owned.ticks().counts_turns()
+    }
+
+    /// Takes turns of the place up to the next at which the gate is to be passed, while there is something to do. The
+    /// clock does not tick meanwhile. Returns the status of the last turn.
+    fn take_more<K: Roster<T>, T: Work, G: Gate>(
+        &mut self,
+        owned: &mut Owned<K, T>,
+        gate: &G,
+        words: &Words,
+        limits: Limits,
+    ) -> TurnStatus {
+        let mut moment = owned.ticks().last();
+        moment.is_open = moment.is_open && gate.is_open();
+        let (mut status, mut touched, mut turns) = (TurnStatus::Done, Touched::new(), 0u32);
+        for _ in 1..STRIDE {
+            if owned.turn % STRIDE == 0 || owned.turn >= limits.turns {
+                break;
+            }
+            let turned = owned.take_step(moment);
+            if turned.is_reported() {
+                self.helper.report(owned, gate, words, &turned);
+            }
+            status = turned.status;
+            if status != TurnStatus::Done {
+                break;
+            }
+            touched.add(turned.port);
+            turns = turns.saturating_add(1);
+        }
+        self.helper
+            .after_turns(gate, owned.place(), &touched, turns);
+        self.pace = self.pace.after_work(turns);
+        status
     }
 
     /// Takes turns of the place until it takes no more, other places are to be helped, or the worker may sleep. Closes
@@ -180,7 +222,10 @@ impl Worker {
                 owned.close(finish);
                 return Next::End;
             }
-            let status = self.take_turn(rt, owned, gate, words);
+            let mut status = self.take_turn(rt, owned, gate, words);
+            if status == TurnStatus::Done && self.is_to_go_on(owned, gate) {
+                status = self.take_more(owned, gate, words, limits);
+            }
             if let Some(finish) = own_end(status) {
                 words.end(gate);
                 owned.close(finish);

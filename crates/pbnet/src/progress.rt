@@ -136,6 +136,11 @@ impl<R: Clock + Eprint + AllocGlobal + Sync> Gate for RunMonitor<'_, R> {
         Go::Go
     }
 
+    /// Returns true: it looks at its clock only at turns whose number is a multiple of 64.
+    fn is_passed_seldom(&self) -> bool {
+        true
+    }
+
     fn lets_sleep(&self, _place: Place) -> bool {
         true
     }

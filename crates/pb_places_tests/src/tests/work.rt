@@ -1,5 +1,6 @@
 //! Runs of a few workers. Each ends by itself, whatever the schedule.
 
+mod seldom;
 mod sleeping;
 
 ghost use Rattle.std.specs.Coded.{Unit-prop};
