@@ -7,7 +7,7 @@ use std::alloc::{AllocError, Global};
 use std::collections::VecDeque;
 
 /// The most frames whose memory is used again.
-const MOST: usize = 256;
+const MOST: usize = 1_024;
 
 /// The most octets of such a frame, so that the memory stays small.
 const LARGEST: usize = 2_048;

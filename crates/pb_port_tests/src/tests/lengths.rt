@@ -175,7 +175,7 @@ fn reads_a_stream_that_ends_within_a_length_or_a_frame(rt: HostRuntime) {
 }
 
 /// The number of frames of a stream that is long enough for memory to be used again.
-const MANY: u32 = 1_000;
+const MANY: u32 = 3_000;
 
 /// Returns the number of octets of a frame of that stream, 1 to 64, and their value.
 fn frame_at(number: u32) -> (u8, u8) {
@@ -242,6 +242,6 @@ fn still_right(held: &[Bytes]) -> u32 {
 #[test]
 fn gives_frames_in_memory_of_earlier_ones(rt: HostRuntime) -> Result<(), Fail> {
     let octets = many_frames(rt.alloc())?;
-    assert_eq!(&rt; given(rt.alloc(), &octets)?, (1_000, 143));
+    assert_eq!(&rt; given(rt.alloc(), &octets)?, (3_000, 429));
     Ok(())
 }
