@@ -3,6 +3,7 @@ use Rattle.std.proofs.Common.{◌≡◌, ◌<◌, ◌≤◌, ◌==◌, ◌&&◌,
 use Rattle.std.proofs.Common.{Option, Some, inl, inr, length, map, slice_get, refl, sym, ap, ◌∙◌, subst, arith}
 use Rattle.std.proofs.lemmas.Bool.{and_right}
 use Rattle.std.specs.List.{AllByRecursion, filter, list_any}
+use Rattle.pb_fdb.proofs.EntryLemmas.{filter-shorter}
 use Rattle.pb_frame.proofs.Lists.{All-both, All-imply, All-passed, All-placed, All-unmap, list_any-at, list_any-found}
 use Rattle.pb_frame.proofs.Lists.{false-unless, true-false, eqb-refl}
 use Rattle.pb_frame.specs.declared.learnt.Learnt.{Learnt}
@@ -33,11 +34,6 @@ use Rattle.pb_relay.specs.Standing.{BridgeView, HasReceived}
 use Rattle.pb_workers.proofs.ReceiveLemmas.{none_later}
 use Rattle.pb_workers.specs.Lossless.{HasRoomBeside, refuses_when_full}
 
--- a list has at least as many items as pass a test
-few_pass : {X : Type 0} (test : X → Bool) (xs : List X) → length (filter test xs) ≤ length xs
-few_pass test [] = omega arith
-few_pass test (x ∷ xs) = let rest = few_pass test xs in grind (arith, rest)
-
 not_full : (most waiting : ℕ) → waiting < most → nat_le most waiting ≡ false
 not_full most waiting room = grind arith
 
@@ -46,7 +42,7 @@ room_in_class : (queues : Queues) (most class : ℕ) (ws : List Waiting) → len
     → is_full_by queues most class ws ≡ false
 room_in_class PerPort most class ws room = not_full most (length ws) room
 room_in_class PerClass most class ws room =
-    let few = few_pass (λ (w : Waiting). w.class == class) ws in
+    let few = filter-shorter (λ (w : Waiting). w.class == class) ws in
     and_right (not (class == 8)) _ (not_full most (length (filter (λ w. w.class == class) ws)) (omega arith))
 
 forwards : (s : PortState) → is_forwarding s ≡ true → s ≡ Forwarding
