@@ -14,8 +14,8 @@ use Rattle.pb_rstp.specs.Ports.{Machine}
 use Rattle.pb_rstp.specs.Profile.{machine_of}
 use Rattle.pb_lan.specs.Plans.{IsSound}
 use Rattle.pb_lan.specs.declared.record.Record.{Record}
-use Rattle.pb_rstp.specs.Tree.{IsSettled, NoneHeld, AreMachines, AreForests, PlannedAreMachines}
-use Rattle.pb_relay.specs.Settled.{machines_in, TellsOf}
+use Rattle.pb_rstp.specs.Tree.{IsSettled, IsConverged, NoneHeld, AreMachines, AreForests, PlannedAreMachines}
+use Rattle.pb_relay.specs.Settled.{machines_in, TellsOf, TellsConvergedOf}
 use Rattle.pb_relay.proofs.MachineLemmas.{are_machines}
 use Rattle.pb_net.specs.declared.net.Net.TheInside.{Inside}
 use Rattle.pb_net.specs.Answers.{NetView}
@@ -97,6 +97,21 @@ tells plan rec machines answer e sound planned settled forest =
     subst (λ (ms : List Machine). TellsOf plan ms answer) e
     (record {
       settled = settled;
+      forest = λ t none. forest t sound
+          (subst (AreMachines plan) (sym e) (are_machines plan rec sound planned)) none;
+    })
+
+-- the contract of `converged`, from the machines of the network's bridges
+pub tells_converged : (plan : Plan) (rec : Record) (machines : List Machine) (answer : Bool)
+    → machines ≡ machines_in plan rec
+    → IsSound plan → PlannedAreMachines
+    → (IsTrue answer ↔ IsConverged plan machines)
+    → (IsTrue answer → IsSound plan → AreMachines plan machines → NoneHeld machines → AreForests plan machines)
+    → TellsConvergedOf plan (machines_in plan rec) answer
+tells_converged plan rec machines answer e sound planned converged forest =
+    subst (λ (ms : List Machine). TellsConvergedOf plan ms answer) e
+    (record {
+      converged = converged;
       forest = λ t none. forest t sound
           (subst (AreMachines plan) (sym e) (are_machines plan rec sound planned)) none;
     })

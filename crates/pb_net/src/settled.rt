@@ -1,4 +1,4 @@
-//! The spanning trees of a network's bridges, and whether they are settled.
+//! The spanning trees of a network's bridges, whether they are settled, and whether they have converged.
 
 ghost use Rattle.std.specs.Option.{option_copied};
 ghost use Rattle.std.specs.Prelude.{◌≡◌, true, map, IfOk};
@@ -7,12 +7,12 @@ ghost use Rattle.pb_lan.specs.Records.{steps_of};
 ghost use Rattle.pb_lan.specs.declared.plan.Spanning.TheVariants.{Rstp as by_protocol};
 ghost use Rattle.pb_lan.specs.declared.step.Place.TheVariants.{Bridge};
 ghost use Rattle.pb_relay.specs.Machines.{machine_in};
-ghost use Rattle.pb_relay.specs.Settled.{TellsSettled, machines_in};
+ghost use Rattle.pb_relay.specs.Settled.{TellsSettled, TellsConverged, machines_in};
 
 use crate::net::Net;
 use pb_frame::{Memory, index_of};
 use pb_lan::Spanning;
-use pb_rstp::{Rstp, is_settled, planned_are_machines};
+use pb_rstp::{Rstp, is_converged, is_settled, planned_are_machines};
 use std::alloc::Global;
 
 impl Net {
@@ -48,9 +48,9 @@ impl Net {
     /// of the ports.
     ///
     /// The bridges are settled if each link with both ends enabled has exactly one Designated end, the other end stores
-    /// what that one offers, an end that is enabled alone is Designated, each port has the role that follows from the
-    /// vectors, and only Root and Designated ports are Forwarding. The result holds for this moment: later steps may
-    /// change it.
+    /// what that one offers, each port has the role that follows from the vectors, and only Root and Designated ports
+    /// are Forwarding. A settled tree may still have a link that carries no frame: see [`Net::converged`]. The result
+    /// holds for this moment: later steps may change it.
     ///
     /// # Errors
     ///
@@ -64,6 +64,29 @@ impl Net {
                 planned_are_machines();
                 let machines = self.machines(alloc)?;
                 Ok(Some(is_settled(machines.as_slice(), &self.plan)))
+            }
+        }
+    }
+
+    /// Checks whether the bridges have converged (IEEE 802.1D-2004 clause 17). Returns `None` if the plan gives the
+    /// states of the ports.
+    ///
+    /// The bridges have converged if they are settled ([`Net::settled`]), an end that is enabled alone is Designated,
+    /// and both ends of each enabled link with a Root port are Forwarding: each link of the tree carries frames. The
+    /// result holds for this moment: later steps may change it.
+    ///
+    /// # Errors
+    ///
+    /// `Memory` if the allocation of a list of the bridges failed.
+    pub fn converged(&self, alloc: Global) -> Result<Option<bool>, Memory>
+        ensures { IfOk result (TellsConverged self.now.plan self.now.rec) }
+    {
+        match self.plan.spanning {
+            Spanning::Fixed => Ok(None),
+            Spanning::Rstp => {
+                planned_are_machines();
+                let machines = self.machines(alloc)?;
+                Ok(Some(is_converged(machines.as_slice(), &self.plan)))
             }
         }
     }

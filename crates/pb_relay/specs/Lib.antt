@@ -18,3 +18,4 @@ pub mod Loads
 pub mod Changes
 pub mod Starts
 pub mod Settled
+pub mod Room

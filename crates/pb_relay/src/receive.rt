@@ -141,7 +141,7 @@ impl Bridge {
     }
 
     /// Returns what to do with an item that arrives at a port.
-    fn rule(&self, port: u8, item: &Item) -> Verdict
+    pub(crate) fn rule(&self, port: u8, item: &Item) -> Verdict
         requires { is_used (port_at self.now.plan self.now.number port) ≡ true }
         ensures { as_ruling result ≡ ruling spanning_tree self.now.plan self.now.number self.now.steps port item.now }
     {
@@ -262,7 +262,7 @@ fn append_receive(
 }
 
 /// Returns the port at which the destination of a frame was seen, or None. A group address has no port.
-fn sought(table: &Fdb, vid: u16, frame: &[u8], now: u64) -> Option<u8>
+pub(crate) fn sought(table: &Fdb, vid: u16, frame: &[u8], now: u64) -> Option<u8>
     requires { shortest_frame ≤ length frame.now }
     ensures { result ≡ (if is_group (dst_of frame.now) then None else where_in table.now now vid (dst_of frame.now)) }
 {

@@ -112,10 +112,20 @@ impl<W: Wiring> Inlet<W> {
         !self.end.is_empty()
     }
 
+    /// Returns the oldest item that was sent and not yet received, and leaves it on the ring. An item must be known to
+    /// be there.
+    pub fn first(&self) -> &Item
+        requires { 0 < length (known_items self.now.end) }
+        ensures { slice_get (known_items self.now.end) 0 ≡ Some result.now }
+    {
+        self.end.peek_known()
+    }
+
     /// Receives the oldest item that was sent and not yet received, or `None` if there is none. The other end may
     /// send one at any time.
     pub fn pop(&mut self) -> Option<Item>
         ensures received { received self.new.end ≡ received self.old.end ++ option_to_list result }
+        ensures first { (item : Item) → slice_get (known_items self.old.end) 0 ≡ Some item → result ≡ Some item }
         ensures none { result ≡ None → known_items self.new.end ≡ [] }
         ensures known { 0 < length (known_items self.old.end) → IsSome result }
         ensures number { self.new.number ≡ self.old.number }

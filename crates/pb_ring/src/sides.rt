@@ -1,7 +1,7 @@
 //! The ring ends of a bridge, by index.
 
 ghost use Rattle.std.specs.Prelude.{◌≡◌, ◌<◌, ◌++◌, ◌∷◌, [], ◌↔◌, ◌==◌, ℕ, IsTrue, None, if◌then◌else◌};
-ghost use Rattle.std.specs.Prelude.{length, map, vec_len, slice_index_or, option_to_list};
+ghost use Rattle.std.specs.Prelude.{length, map, vec_len, slice_get, slice_index_or, option_to_list, Some};
 ghost use Rattle.rtrb.specs.Ring.{sent, received, known_free, known_items};
 ghost use Rattle.pb_frame.specs.Lists.{IsBeginning};
 ghost use Rattle.pb_ring.specs.Rings.{shown_at};
@@ -37,10 +37,22 @@ impl<W: Wiring> Inlets<W> {
         self.ends[place].has_item()
     }
 
+    /// Returns the oldest item that was sent to the end at index `place` and not yet received, and leaves it on the
+    /// ring. An item must be known to be there.
+    pub fn first(&self, place: usize) -> &Item
+        requires place { place < vec_len self.now.ends }
+        requires item { 0 < length (shown_at (λ i. known_items i.end) self.now.ends.items place) }
+        ensures { slice_get (shown_at (λ i. known_items i.end) self.now.ends.items place) 0 ≡ Some result.now }
+    {
+        self.ends[place].first()
+    }
+
     /// Receives the oldest item that was sent to the end at index `place` and not yet received, or `None` if there is
     /// none. The other end may send one at any time.
     pub fn pop(&mut self, place: usize) -> Option<Item>
         requires { place < vec_len self.old.ends }
+        ensures first { (item : Item) → slice_get (shown_at (λ i. known_items i.end) self.old.ends.items place) 0
+            ≡ Some item → result ≡ Some item }
         ensures received { (p : ℕ) → shown_at (λ i. received i.end) self.new.ends.items p
             ≡ shown_at (λ i. received i.end) self.old.ends.items p
             ++ (if place == p then option_to_list result else []) }

@@ -56,23 +56,23 @@ befores-proposal (Some heard) ms =
     (befores ms) (befores-each (synced (fwd_delay_of (nows ms))) ms) refl) refl
 
 -- stage 6 keeps them
-pub befores-topology : (heard : Option Heard) (ms : List Moving) → befores (with_topology heard ms) ≡ befores ms
-befores-topology heard ms = befores-each (with_tc_while heard ms) ms
+pub befores-topology : (prompt : Bool) (heard : Option Heard) (ms : List Moving) → befores (with_topology prompt heard ms) ≡ befores ms
+befores-topology prompt heard ms = befores-each (with_tc_while prompt heard ms) ms
 
 -- stages 1 to 6 keep them
-pub befores-reported : (id : ℕ) (heard : Option Heard) (ms : List Moving)
-    → befores (with_topology heard (with_proposal heard (in_line id ms))) ≡ befores ms
-befores-reported id heard ms =
-    befores-topology heard (with_proposal heard (in_line id ms))
+pub befores-reported : (prompt : Bool) (id : ℕ) (heard : Option Heard) (ms : List Moving)
+    → befores (with_topology prompt heard (with_proposal heard (in_line id ms))) ≡ befores ms
+befores-reported prompt id heard ms =
+    befores-topology prompt heard (with_proposal heard (in_line id ms))
     ∙ befores-proposal heard (in_line id ms) ∙ befores-in_line id ms
 
 -- stages 1 to 7 keep them
 pub befores-settled : (prompt : Bool) (id : ℕ) (heard : Option Heard) (ms : List Moving)
     → befores (settled prompt id heard ms) ≡ befores ms
 befores-settled prompt id heard ms =
-    let reported = with_topology heard (with_proposal heard (in_line id ms)) in
+    let reported = with_topology prompt heard (with_proposal heard (in_line id ms)) in
     befores-if prompt (each (with_update id (offer_by id (befores reported)) (offer_by id (nows reported))) reported)
     reported (befores ms)
     (befores-each (with_update id (offer_by id (befores reported)) (offer_by id (nows reported))) reported
-    ∙ befores-reported id heard ms)
-    (befores-reported id heard ms)
+    ∙ befores-reported prompt id heard ms)
+    (befores-reported prompt id heard ms)

@@ -78,10 +78,10 @@ quiet_agreeing number was now h =
     quiet-if (is_agreeing number now) (record now { agree = true; new_info = true }) now h h
 
 -- a port that reports a topology change stays quiet
-quiet_tc_while : (heard : Option Heard) (ports : List Moving) (was now : Port) → IsQuiet now
-    → IsQuiet (with_tc_while heard ports was now)
-quiet_tc_while heard ports was now h =
-    quiet-if (is_telling heard ports now) (record now { tc_while = 3; new_info = true }) now h h
+quiet_tc_while : (prompt : Bool) (heard : Option Heard) (ports : List Moving) (was now : Port) → IsQuiet now
+    → IsQuiet (with_tc_while prompt heard ports was now)
+quiet_tc_while prompt heard ports was now h =
+    quiet-if (is_telling prompt heard ports now) (record now { tc_while = 3; new_info = true }) now h h
 
 -- a port that sends an update stays quiet
 quiet_update : (id : ℕ) (before after : Offer) (was now : Port) → IsQuiet now
@@ -112,9 +112,9 @@ quiet_settled prompt id heard ports =
     let infos = with_infos (with_agreements id (with_roles id ports)) in
     let fourth : AllByRecursion IsQuiet (nows (in_line id ports)) = quiet_states (fwd_delay_of (nows infos)) infos in
     let proposed = with_proposal heard (in_line id ports) in
-    let reported = with_topology heard proposed in
+    let reported = with_topology prompt heard proposed in
     let sixth : AllByRecursion IsQuiet (nows reported) =
-    quiet-each (with_tc_while heard proposed) (quiet_tc_while heard proposed) proposed
+    quiet-each (with_tc_while prompt heard proposed) (quiet_tc_while prompt heard proposed) proposed
     (quiet_proposal heard (in_line id ports) fourth) in
     let before = offer_by id (befores reported) in
     let after = offer_by id (nows reported) in

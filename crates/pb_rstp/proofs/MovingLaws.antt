@@ -144,10 +144,10 @@ moving_fifth (Some heard) ps ms h =
     ps ms h) h)) h
 
 -- stage 6 keeps the ports
-pub moving_sixth : (heard : Option Heard) (ps : List Port) (ms : List Moving) → AreMoving ps ms
-    → AreMoving ps (with_topology heard ms)
-moving_sixth heard ps ms h =
-    moving-each (with_tc_while heard ms) (λ was now. of_keeps now _ (keeps-tc_while heard ms was now)) ps ms h
+pub moving_sixth : (prompt : Bool) (heard : Option Heard) (ps : List Port) (ms : List Moving) → AreMoving ps ms
+    → AreMoving ps (with_topology prompt heard ms)
+moving_sixth prompt heard ps ms h =
+    moving-each (with_tc_while prompt heard ms) (λ was now. of_keeps now _ (keeps-tc_while prompt heard ms was now)) ps ms h
 
 -- stage 7 keeps the ports
 pub moving_seventh : (prompt : Bool) (id : ℕ) (ps : List Port) (ms : List Moving) → AreMoving ps ms
@@ -163,8 +163,8 @@ moving_seventh prompt id ps ms h =
 pub moving_settled : (prompt : Bool) (id : ℕ) (heard : Option Heard) (ps : List Port) (ms : List Moving)
     → AreMoving ps ms → AreMoving ps (settled prompt id heard ms)
 moving_settled prompt id heard ps ms h =
-    moving_seventh prompt id ps (with_topology heard (with_proposal heard (in_line id ms)))
-    (moving_sixth heard ps (with_proposal heard (in_line id ms))
+    moving_seventh prompt id ps (with_topology prompt heard (with_proposal heard (in_line id ms)))
+    (moving_sixth prompt heard ps (with_proposal heard (in_line id ms))
     (moving_fifth heard ps (in_line id ms) (moving_in_line id ps ms h)))
 
 -- stage 8 keeps the ports

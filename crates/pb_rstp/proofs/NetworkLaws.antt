@@ -1,4 +1,4 @@
--- For the code that tests whether a network has converged.
+-- For the code that tests whether a network is settled.
 use Rattle.std.proofs.Common.{◌≡◌, ℕ, zero, suc, ◌+◌, ◌<◌, List, [], ◌∷◌, refl, sym, ap₂, subst, Bool, true, false}
 use Rattle.std.proofs.Common.{◌&&◌, ◌||◌, map, length, get_or, drop, drop-cons, add-one, arith}
 use Rattle.std.specs.List.{list_all, AllByRecursion}

@@ -197,10 +197,10 @@ held_settled prompt id heard ps ms h roles =
     (held-state (fwd_delay_of (nows infos))) infos third in
     let proposed = with_proposal heard (in_line id ms) in
     let fifth : AllByRecursion (λ m. IsHeld m.was m.now) proposed = held-fifth heard (in_line id ms) fourth in
-    let reported = with_topology heard proposed in
+    let reported = with_topology prompt heard proposed in
     let sixth : AllByRecursion (λ m. IsHeld m.was m.now) reported =
-    moved-all IsHeld IsHeld (with_tc_while heard proposed)
-    (λ was now f. held-if (is_telling heard proposed now) was (record now { tc_while = 3; new_info = true }) now f f)
+    moved-all IsHeld IsHeld (with_tc_while prompt heard proposed)
+    (λ was now f. held-if (is_telling prompt heard proposed now) was (record now { tc_while = 3; new_info = true }) now f f)
     proposed fifth in
     let before = offer_by id (befores reported) in
     let after = offer_by id (nows reported) in

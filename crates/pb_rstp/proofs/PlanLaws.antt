@@ -40,7 +40,7 @@ calls_keep_bridges machine cause =
     (moved_by change machine.ports) (moving_by change same machine.ports)) cause
 
 -- ports that are kept twice, one time after the other, are kept
-same_ports-trans : (ps qs rs : List Port) → AreSamePorts ps qs → AreSamePorts qs rs → AreSamePorts ps rs
+pub same_ports-trans : (ps qs rs : List Port) → AreSamePorts ps qs → AreSamePorts qs rs → AreSamePorts ps rs
 same_ports-trans [] [] rs h k = k
 same_ports-trans (p ∷ ps) (q ∷ qs) [] h k = absurd k
 same_ports-trans (p ∷ ps) (q ∷ qs) (r ∷ rs) h k = (same_port-trans p q r h.0 k.0, same_ports-trans ps qs rs h.1 k.1)
@@ -58,13 +58,13 @@ same_after machine (cause ∷ causes) =
 -- Ports by number.
 
 -- numbers that rise from n are all above it
-all-above : (n m : ℕ) → m ≤ n → (ps : List Port) → AreRising n (map (λ p. p.number) ps)
+pub all-above : (n m : ℕ) → m ≤ n → (ps : List Port) → AreRising n (map (λ p. p.number) ps)
     → AllByRecursion (λ p. m < p.number) ps
 all-above n m below [] r = tt
 all-above n m below (p ∷ ps) r = (omega (arith, r.0.0), all-above p.number m (omega (arith, r.0.0)) ps r.1)
 
 -- a port in front of others with greater numbers hides none of them
-found-behind : (p : Port) (ps qs : List Port) → AllByRecursion (λ q. p.number < q.number) qs
+pub found-behind : (p : Port) (ps qs : List Port) → AllByRecursion (λ q. p.number < q.number) qs
     → AllByRecursion (λ q. port_of ps q.number ≡ Some q) qs
     → AllByRecursion (λ q. port_of (p ∷ ps) q.number ≡ Some q) qs
 found-behind p ps [] h k = tt
@@ -72,7 +72,7 @@ found-behind p ps (q ∷ qs) h k =
     (port_of-cons q.number p ps false (lt-not_same p.number q.number h.0) ∙ k.0, found-behind p ps qs h.1 k.1)
 
 -- ports with rising numbers are each found by their own number
-rising-distinct : (n : ℕ) (ps : List Port) → AreRising n (map (λ p. p.number) ps)
+pub rising-distinct : (n : ℕ) (ps : List Port) → AreRising n (map (λ p. p.number) ps)
     → AllByRecursion (λ p. port_of ps p.number ≡ Some p) ps
 rising-distinct n [] r = tt
 rising-distinct n (p ∷ ps) r = (
@@ -81,7 +81,7 @@ rising-distinct n (p ∷ ps) r = (
 )
 
 -- ports that are kept have numbers from 1 to 255 too
-small-same : (ps qs : List Port) → AreSamePorts ps qs → AllByRecursion (λ p. (1 ≤ p.number) × (p.number < 256)) ps
+pub small-same : (ps qs : List Port) → AreSamePorts ps qs → AllByRecursion (λ p. (1 ≤ p.number) × (p.number < 256)) ps
     → AllByRecursion (λ p. (1 ≤ p.number) × (p.number < 256)) qs
 small-same [] [] h s = tt
 small-same (p ∷ ps) (q ∷ qs) h s =
@@ -89,7 +89,7 @@ small-same (p ∷ ps) (q ∷ qs) h s =
 small-same _ _ h s = absurd h
 
 -- a port that is found before is found after, with the same path cost
-found-same : (k : ℕ) (ps qs : List Port) → AreSamePorts ps qs → (p : Port) → port_of ps k ≡ Some p
+pub found-same : (k : ℕ) (ps qs : List Port) → AreSamePorts ps qs → (p : Port) → port_of ps k ≡ Some p
     → (q : Port) × (port_of qs k ≡ Some q) × (q.cost ≡ p.cost)
 found-same k [] [] h p e = cc
 found-same k (x ∷ xs) (y ∷ ys) h p e = by_test (x.number == k) refl (λ f. found-same k xs ys h.1 p f)
@@ -122,7 +122,7 @@ rising-ports at n m below (k ∷ ks) r =
     by_port _ skip take = skip
 
 -- these ports have numbers from 1 to 255
-small-ports : (at : ℕ → LocalPort) (ns : List ℕ) → AllByRecursion (λ n. (1 ≤ n) × (n < 256)) ns
+pub small-ports : (at : ℕ → LocalPort) (ns : List ℕ) → AllByRecursion (λ n. (1 ≤ n) × (n < 256)) ns
     → AllByRecursion (λ p. (1 ≤ p.number) × (p.number < 256)) (map fresh (flat_map (λ k. rstp_port k (at k)) ns))
 small-ports at [] h = tt
 small-ports at (k ∷ ks) h = by_port (at k) (small-ports at ks h.1)
@@ -135,11 +135,11 @@ small-ports at (k ∷ ks) h = by_port (at k) (small-ports at ks h.1)
     by_port _ rest = rest
 
 -- the port at an end of a link, at the start
-abbrev port_for : ℕ → End → Port
+abbrev pub port_for : ℕ → End → Port
 port_for k e = fresh (record { port = k; cost = e.cost; priority = e.priority })
 
 -- the bridge of a link end has that port
-found-port : (at : ℕ → LocalPort) (k : ℕ) (e : End) → at k ≡ Provider e → (ns : List ℕ)
+pub found-port : (at : ℕ → LocalPort) (k : ℕ) (e : End) → at k ≡ Provider e → (ns : List ℕ)
     → list_any (λ n. n == k) ns ≡ true
     → port_of (map fresh (flat_map (λ n. rstp_port n (at n)) ns)) k ≡ Some (port_for k e)
 found-port at k e is [] listed = cc
@@ -165,12 +165,12 @@ found-port at k e is (n ∷ ns) listed = by_test (n == k) refl (found-port at k 
     by_test false t rest = by_port (at n) t (rest (sym (ap (λ b. b || list_any (λ i. i == k) ns) t) ∙ listed))
 
 -- n numbers from k on
-abbrev up_from : ℕ → ℕ → List ℕ
+abbrev pub up_from : ℕ → ℕ → List ℕ
 up_from k zero = []
 up_from k (suc n) = k ∷ up_from (k + 1) n
 
 -- these numbers rise
-rising-up : (k n : ℕ) → AreRising k (up_from (k + 1) n)
+pub rising-up : (k n : ℕ) → AreRising k (up_from (k + 1) n)
 rising-up k zero = (tt, tt)
 rising-up k (suc n) = rises-above k (k + 1) (omega arith) (up_from (k + 1 + 1) n) (rising-up (k + 1) n)
 
@@ -179,7 +179,7 @@ pub local_rise : AreRising 0 local_ports
 local_rise = rising-up 0 16
 
 -- n numbers from k on are at most 16, if k + n is at most 17
-few-up : (k n : ℕ) → 1 ≤ k → k + n ≤ 17 → AllByRecursion (λ m. (1 ≤ m) × (m ≤ 16)) (up_from k n)
+pub few-up : (k n : ℕ) → 1 ≤ k → k + n ≤ 17 → AllByRecursion (λ m. (1 ≤ m) × (m ≤ 16)) (up_from k n)
 few-up k zero least most = tt
 few-up k (suc n) least most = ((least, omega (arith, most)), few-up (k + 1) n (omega arith) (omega (arith, most)))
 
@@ -190,7 +190,7 @@ local_few = few-up 1 16 (omega arith) (omega arith)
 -- The bridges of a network.
 
 -- a bridge of the plan has different port numbers from 1 to 255, after any steps
-has_ports : (plan : Plan) (bridge : ℕ) (steps : List Step) → HasPorts (machine_of plan bridge steps)
+pub has_ports : (plan : Plan) (bridge : ℕ) (steps : List Step) → HasPorts (machine_of plan bridge steps)
 has_ports plan bridge steps =
     let same = same_after (machine_at_start plan bridge) (flat_map causes_of steps) in
     let rises = rising-ports (λ port. port_at plan bridge port) 0 0 (omega arith) local_ports local_rise in
@@ -204,7 +204,7 @@ has_ports plan bridge steps =
     }
 
 -- the bridge at an end of a link has a port there with the plan's path cost, after any steps
-has_port_at : (plan : Plan) (past : ℕ → List Step) → IsSound plan → (k : ℕ) (link : LinkPlan) (e : End)
+pub has_port_at : (plan : Plan) (past : ℕ → List Step) → IsSound plan → (k : ℕ) (link : LinkPlan) (e : End)
     → numbered plan.links k ≡ Some link → IsEndOf link e
     → HasPortAt (machines_of plan past) e
 has_port_at plan past sound k link e at which =
@@ -225,7 +225,7 @@ has_port_at plan past sound k link e at which =
     )
 
 -- there is one bridge of the network for each of the plan
-length-machines : (plan : Plan) (past : ℕ → List Step) {X : Type 0} (k : ℕ) (xs : List X)
+pub length-machines : (plan : Plan) (past : ℕ → List Step) {X : Type 0} (k : ℕ) (xs : List X)
     → length (map (λ bridge. machine_of plan bridge (past bridge)) (numbers_from k xs)) ≡ length xs
 length-machines plan past k [] = refl
 length-machines plan past k (x ∷ xs) = ap suc (length-machines plan past (k + 1) xs)

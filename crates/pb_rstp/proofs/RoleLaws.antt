@@ -353,10 +353,10 @@ roles-fifth id root (Some heard) ports h =
     (roles-each id root (synced (fwd_delay_of (nows ports))) (keeps-synced (fwd_delay_of (nows ports))) ports h) h)) h
 
 -- stage 6 changes no role
-pub keeps-tc_while : (heard : Option Heard) (ports : List Moving) (was now : Port)
-    → Keeps now (with_tc_while heard ports was now)
-keeps-tc_while heard ports was now =
-    keeps-if (is_telling heard ports now) now _ now
+pub keeps-tc_while : (prompt : Bool) (heard : Option Heard) (ports : List Moving) (was now : Port)
+    → Keeps now (with_tc_while prompt heard ports was now)
+keeps-tc_while prompt heard ports was now =
+    keeps-if (is_telling prompt heard ports now) now _ now
     (record {
       seen = record { number = refl; cost = refl; priority = refl; port_enabled = refl; info = refl };
       role = refl;
@@ -396,9 +396,9 @@ roles_settled prompt id heard ports =
     roles-each id root (with_state (fwd_delay_of (nows infos))) (keeps-state (fwd_delay_of (nows infos))) infos third in
     let fifth = roles-fifth id root heard (in_line id ports) fourth in
     let proposed = with_proposal heard (in_line id ports) in
-    let reported = with_topology heard proposed in
+    let reported = with_topology prompt heard proposed in
     let sixth : HaveRoles id root reported =
-    roles-each id root (with_tc_while heard proposed) (keeps-tc_while heard proposed) proposed fifth in
+    roles-each id root (with_tc_while prompt heard proposed) (keeps-tc_while prompt heard proposed) proposed fifth in
     let before = offer_by id (befores reported) in
     let after = offer_by id (nows reported) in
     let seventh : HaveRoles id root (settled prompt id heard ports) =

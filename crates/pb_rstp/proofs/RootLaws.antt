@@ -35,17 +35,17 @@ in_right v [] ws h = h
 in_right v (u ∷ us) ws h = inr (in_right v us ws h)
 
 -- the better of two vectors, or the first if neither is
-abbrev pick : Vector → Vector → Vector
+abbrev pub pick : Vector → Vector → Vector
 pick v w = if is_better w v then w else v
 
 -- what holds of the better of two: it is one of them, and neither is better
-record Picks (v w p : Vector) : Type 0 where
+pub record Picks (v w p : Vector) : Type 0 where
   one : (p ≡ v) ⊎ (p ≡ w)
   first : is_better v p ≡ false
   second : is_better w p ≡ false
 
 -- the better of two has that property
-picks : (v w : Vector) → Picks v w (pick v w)
+pub picks : (v w : Vector) → Picks v w (pick v w)
 picks v w = by_test (is_better w v) refl
   where
     by_test : (t : Bool) → is_better w v ≡ t → Picks v w (if t then w else v)

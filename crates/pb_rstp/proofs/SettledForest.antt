@@ -31,14 +31,14 @@ use Rattle.pb_rstp.proofs.SettledLaws.{Network, stands, rises, root_way, root_is
 -- The state of a port in the shape of the network.
 
 -- the entry of a list by local ports, by its number
-local_at : {Y : Type 0} (f : ℕ → Y) (k : ℕ) → 1 ≤ k → k ≤ 16 → numbered (map f local_ports) k ≡ Some (f k)
+pub local_at : {Y : Type 0} (f : ℕ → Y) (k : ℕ) → 1 ≤ k → k ≤ 16 → numbered (map f local_ports) k ≡ Some (f k)
 local_at f k above below = numbered-at f (sixteen) k above (omega (arith, below))
   where
     sixteen : List ℕ
     sixteen = local_ports
 
 -- the shape has the state of the port at a link end
-shape_state : (plan : Plan) (machines : List Machine) → Network plan machines → (k : ℕ) (link : LinkPlan) (e : End)
+pub shape_state : (plan : Plan) (machines : List Machine) → Network plan machines → (k : ℕ) (link : LinkPlan) (e : End)
     → numbered plan.links k ≡ Some link
     → IsEndOf link e → (m : Machine) (p : Port) → StandsAt machines e m p
     → state_in (shape_of plan machines) e.bridge e.port ≡ p.state
@@ -62,17 +62,17 @@ shape_state plan machines net k link e at which m p s =
     ∙ state
 
 -- the two tests for Forwarding agree
-same_test : (s : PortState) → is_open_state s ≡ true → is_forwarding s ≡ true
+pub same_test : (s : PortState) → is_open_state s ≡ true → is_forwarding s ≡ true
 same_test Forwarding e = refl
 same_test _ e = cc
 
 -- a link passes only if both its ends are Forwarding
-abbrev Forwards : Plan → List Machine → (LinkPlan → Bool) → Type 0
+abbrev pub Forwards : Plan → List Machine → (LinkPlan → Bool) → Type 0
 Forwards plan machines passes = (link : LinkPlan) → passes link ≡ true
     → are_ends_forwarding (shape_of plan machines) link ≡ true
 
 -- an active link of a service has both ends Forwarding
-active_forwards : (plan : Plan) (machines : List Machine) (vid : ℕ)
+pub active_forwards : (plan : Plan) (machines : List Machine) (vid : ℕ)
     → Forwards plan machines (is_active plan (shape_of plan machines) vid)
 active_forwards plan machines vid link active =
     let shape = shape_of plan machines in
@@ -83,7 +83,7 @@ active_forwards plan machines vid link active =
     ap₂ (λ x y. x && y) forwarding_a forwarding_b
 
 -- such a link has ports that are Forwarding at both ends
-both_forwarding : (plan : Plan) (machines : List Machine) → Network plan machines → (k : ℕ) (link : LinkPlan)
+pub both_forwarding : (plan : Plan) (machines : List Machine) → Network plan machines → (k : ℕ) (link : LinkPlan)
     → numbered plan.links k ≡ Some link
     → are_ends_forwarding (shape_of plan machines) link ≡ true → AreBothForwarding machines link
 both_forwarding plan machines net k link at both =
@@ -107,12 +107,12 @@ both_forwarding plan machines net k link at both =
 -- The lower end of a link is the Root port's.
 
 -- the port at a link end is a Root port
-abbrev is_root_at : List Machine → End → Bool
+abbrev pub is_root_at : List Machine → End → Bool
 is_root_at machines e = option_map_or (λ (p : Port). is_root p.role)
     (option_and_then (λ (m : Machine). port_of m.ports e.port) (numbered machines e.bridge)) false
 
 -- that test reads the role of the port at the link end
-root_test : (machines : List Machine) (e : End) (m : Machine) (p : Port) → StandsAt machines e m p
+pub root_test : (machines : List Machine) (e : End) (m : Machine) (p : Port) → StandsAt machines e m p
     → is_root_at machines e ≡ is_root p.role
 root_test machines e m p s =
     ap (λ o. option_map_or (λ (q : Port). is_root q.role)
@@ -120,24 +120,24 @@ root_test machines e m p s =
     ∙ ap (λ o. option_map_or (λ (q : Port). is_root q.role) o false) s.port
 
 -- the first end of a link is its lower one: it has the Root port
-abbrev low_of : List Machine → LinkPlan → Bool
+abbrev pub low_of : List Machine → LinkPlan → Bool
 low_of machines link = is_root_at machines link.a
 
 -- the root path cost of the bridge with this number
-abbrev cost_of : List Machine → ℕ → ℕ
+abbrev pub cost_of : List Machine → ℕ → ℕ
 cost_of machines b = option_map_or root_cost (numbered machines b) 0
 
 -- a Designated port is no Root port
-not_root : (r : Role) → is_designated r ≡ true → is_root r ≡ false
+pub not_root : (r : Role) → is_designated r ≡ true → is_root r ≡ false
 not_root Designated e = refl
 not_root _ e = cc
 
 -- root path cost rises from the upper to the lower end of a link
-record Oriented (machines : List Machine) (link : LinkPlan) (t : Bool) : Type 0 where
+pub record Oriented (machines : List Machine) (link : LinkPlan) (t : Bool) : Type 0 where
   rises : Rises machines (upper t link) (lower t link)
 
 -- a link with both ends Forwarding leads from a Designated port to a Root port
-oriented : (plan : Plan) (machines : List Machine) → Network plan machines → (k : ℕ) (link : LinkPlan)
+pub oriented : (plan : Plan) (machines : List Machine) → Network plan machines → (k : ℕ) (link : LinkPlan)
     → numbered plan.links k ≡ Some link
     → are_ends_forwarding (shape_of plan machines) link ≡ true → Oriented machines link (low_of machines link)
 oriented plan machines net k link at both =
@@ -158,18 +158,18 @@ oriented plan machines net k link at both =
 -- No port has two link ends.
 
 -- twice a number
-double : ℕ → ℕ
+pub double : ℕ → ℕ
 double zero = zero
 double (suc n) = suc (suc (double n))
 
 -- the same as a sum
-double-is : (n : ℕ) → double n ≡ n + n
+pub double-is : (n : ℕ) → double n ≡ n + n
 unfolding double
 double-is zero = refl
 double-is (suc n) = let h = double-is n in omega (arith, h)
 
 -- the first end of a link, in the list of all ends
-place_a : (links : List LinkPlan) (i : ℕ) (l : LinkPlan) → slice_get links i ≡ Some l
+pub place_a : (links : List LinkPlan) (i : ℕ) (l : LinkPlan) → slice_get links i ≡ Some l
     → slice_get (flat_map ends_of links) (double i) ≡ Some l.a
 unfolding double
 place_a [] i l e = cc
@@ -177,7 +177,7 @@ place_a (m ∷ ls) zero l e = ap (λ (x : LinkPlan). Some x.a) (Some-injective e
 place_a (m ∷ ls) (suc i) l e = place_a ls i l e
 
 -- the second end of a link, in the list of all ends
-place_b : (links : List LinkPlan) (i : ℕ) (l : LinkPlan) → slice_get links i ≡ Some l
+pub place_b : (links : List LinkPlan) (i : ℕ) (l : LinkPlan) → slice_get links i ≡ Some l
     → slice_get (flat_map ends_of links) (suc (double i)) ≡ Some l.b
 unfolding double
 place_b [] i l e = cc
@@ -185,14 +185,14 @@ place_b (m ∷ ls) zero l e = ap (λ (x : LinkPlan). Some x.b) (Some-injective e
 place_b (m ∷ ls) (suc i) l e = place_b ls i l e
 
 -- the index of a link end in the list of all ends
-record Placed (plan : Plan) (i : ℕ) (e : End) : Type 0 where
+pub record Placed (plan : Plan) (i : ℕ) (e : End) : Type 0 where
   place : ℕ
   least : i + i ≤ place
   most : place ≤ i + i + 1
   is : slice_get (all_ends plan) place ≡ Some e
 
 -- a lower end is there
-placed : (plan : Plan) (i : ℕ) (l : LinkPlan) (t : Bool) → slice_get plan.links i ≡ Some l → Placed plan i (lower t l)
+pub placed : (plan : Plan) (i : ℕ) (l : LinkPlan) (t : Bool) → slice_get plan.links i ≡ Some l → Placed plan i (lower t l)
 placed plan i l true e = let d =
     double-is i in record {
       place = double i;
@@ -209,7 +209,7 @@ placed plan i l false e = let d =
     }
 
 -- two links with ends at one port are one link
-one_link : (plan : Plan) → IsSound plan → (i j : ℕ) (e f : End) → Placed plan i e → Placed plan j f
+pub one_link : (plan : Plan) → IsSound plan → (i j : ℕ) (e f : End) → Placed plan i e → Placed plan j f
     → e.bridge ≡ f.bridge → e.port ≡ f.port → i ≡ j
 one_link plan sound i j e f a b bridge port =
     let distinct : IsDistinct is_same_port (map (λ x. (x.bridge, x.port)) (all_ends plan)) =
@@ -222,12 +222,12 @@ one_link plan sound i j e f a b bridge port =
     omega (arith, same, al, am, bl, bm)
 
 -- the lower end is an end of the link
-lower_end : (t : Bool) (l : LinkPlan) → IsEndOf l (lower t l)
+pub lower_end : (t : Bool) (l : LinkPlan) → IsEndOf l (lower t l)
 lower_end true l = inl refl
 lower_end false l = inr refl
 
 -- two lower ends at one bridge are one port, since a bridge has one Root port
-one_port : (plan : Plan) (machines : List Machine) → Network plan machines → (u e v f : End) → Rises machines u e
+pub one_port : (plan : Plan) (machines : List Machine) → Network plan machines → (u e v f : End) → Rises machines u e
     → Rises machines v f → e.bridge ≡ f.bridge → e.port ≡ f.port
 one_port plan machines net u e v f r s bridge =
     let machine : r.below ≡ s.below =
@@ -245,12 +245,12 @@ one_port plan machines net u e v f r s bridge =
     sym re.number ∙ number ∙ sf.number
 
 -- the cost of a bridge is its root path cost
-cost_is : (machines : List Machine) (e : End) (m : Machine) (p : Port) → StandsAt machines e m p
+pub cost_is : (machines : List Machine) (e : End) (m : Machine) (p : Port) → StandsAt machines e m p
     → cost_of machines e.bridge ≡ root_cost m
 cost_is machines e m p s = ap (λ o. option_map_or root_cost o 0) s.machine
 
 -- root path cost falls along Forwarding links, and each bridge has one such link upwards
-settled_falls : (plan : Plan) (machines : List Machine) (passes : LinkPlan → Bool) → Network plan machines
+pub settled_falls : (plan : Plan) (machines : List Machine) (passes : LinkPlan → Bool) → Network plan machines
     → Forwards plan machines passes
     → Falls plan passes (low_of machines) (cost_of machines)
 settled_falls plan machines passes net forwards = record {
@@ -283,7 +283,7 @@ settled_falls plan machines passes net forwards = record {
     one _ _ l l' at at' o o' bridge = cc
 
 -- each bridge's link to its parent leads from its Root port
-behind_roots : (plan : Plan) (machines : List Machine) (passes : LinkPlan → Bool) → Network plan machines
+pub behind_roots : (plan : Plan) (machines : List Machine) (passes : LinkPlan → Bool) → Network plan machines
     → Forwards plan machines passes
     → LeadsBehindRoots plan machines (rooted_by plan passes (low_of machines) (cost_of machines))
 behind_roots plan machines passes net forwards bridge number e =
@@ -299,7 +299,7 @@ behind_roots plan machines passes net forwards bridge number e =
     )
 
 -- links that pass only if both ends are Forwarding are a forest
-forest_over : (plan : Plan) (machines : List Machine) (passes : LinkPlan → Bool) → Network plan machines
+pub forest_over : (plan : Plan) (machines : List Machine) (passes : LinkPlan → Bool) → Network plan machines
     → Forwards plan machines passes
     → IsForestBehindRoots plan machines passes
 forest_over plan machines passes net forwards = (

@@ -1,4 +1,4 @@
--- In a network that has converged root path cost rises along every link with both ends Forwarding.
+-- In a settled network root path cost rises along every link with both ends Forwarding.
 use Rattle.std.proofs.Common.{◌≡◌, ◌⊎◌, ℕ, ◌+◌, ◌*◌, ◌≤◌, ◌<◌, List, [], ◌∷◌, Some, refl, sym, ap, ◌∙◌, subst, true}
 use Rattle.std.proofs.Common.{false, ◌==◌, inl, inr, arith}
 use Rattle.std.specs.List.{AllByRecursion}
@@ -28,7 +28,7 @@ use Rattle.pb_lan.specs.declared.shape.PortState.TheVariants.{Discarding, Learni
 use Rattle.pb_rstp.proofs.RootLaws.{root_vector-is}
 
 -- the port whose root path priority vector the root priority vector is
-way_port : (P : Port → Type 0) (id : ℕ) (ports : List Port) (v : Vector) → AllByRecursion P ports
+pub way_port : (P : Port → Type 0) (id : ℕ) (ports : List Port) (v : Vector) → AllByRecursion P ports
     → IsWayOfSome id ports v
     → (p : Port) × P p × IsWay id p v
 way_port P id [] v all h = absurd h
@@ -52,7 +52,7 @@ pub record IsPortOf (m : Machine) (p : Port) : Type 0 where
   pub quiet : IsQuiet p
 
 -- it holds of all its ports
-ports_known : (m : Machine) → IsInLine m → HasPorts m → AllByRecursion (IsPortOf m) m.ports
+pub ports_known : (m : Machine) → IsInLine m → HasPorts m → AllByRecursion (IsPortOf m) m.ports
 ports_known m line has = go m.ports line.roles line.states has.distinct has.small
   where
     go : (ports : List Port)
@@ -71,7 +71,7 @@ ports_known m line has = go m.ports line.roles line.states has.distinct has.smal
     )
 
 -- a port that is found by its number is one of them
-known_port : (m : Machine) → IsInLine m → HasPorts m → (k : ℕ) (q : Port) → port_of m.ports k ≡ Some q
+pub known_port : (m : Machine) → IsInLine m → HasPorts m → (k : ℕ) (q : Port) → port_of m.ports k ≡ Some q
     → IsPortOf m q × (q.number ≡ k)
 known_port m line has k q e =
     let h = first-found (IsPortOf m) (λ p. p.number == k) m.ports q e (ports_known m line has) in
@@ -109,11 +109,11 @@ root_way m line has q port role = by_candidate (root_vector-is m.id m.ports).can
         subst P (sym same) w.2
 
 -- a cost that does not exceed the greatest cost is not cut
-held : (cost more : ℕ) → cost + more ≤ greatest_cost → raised cost more ≡ cost + more
+pub held : (cost more : ℕ) → cost + more ≤ greatest_cost → raised cost more ≡ cost + more
 held cost more h = omega arith
 
 -- a bridge whose Root port stores what another offers has the greater root path cost
-cost_falls : (m n : Machine) (p q : Port) → IsInLine n → HasPorts n → IsPortOf n q → q.role ≡ Root → IsNotHeld q
+pub cost_falls : (m n : Machine) (p q : Port) → IsInLine n → HasPorts n → IsPortOf n q → q.role ≡ Root → IsNotHeld q
     → 1 ≤ q.cost
     → StoresOffer q m p → root_cost m < root_cost n
 cost_falls m n p q line has port role not_held above (info, stored, offer) =
@@ -130,27 +130,27 @@ cost_falls m n p q line has port role not_held above (info, stored, offer) =
     second_of a b c d a' b' c' d' e = cc
 
 -- no state is both Discarding and Forwarding
-not_both : (s : PortState) → is_discarding s ≡ true → is_forwarding s ≡ true → ⊥
+pub not_both : (s : PortState) → is_discarding s ≡ true → is_forwarding s ≡ true → ⊥
 not_both Discarding d f = cc
 not_both Learning d f = cc
 not_both Forwarding d f = cc
 
 -- a Forwarding port is Root or Designated
-active_role : (r : Role) (s : PortState) → (is_root_or_designated r ≡ false → is_discarding s ≡ true)
+pub active_role : (r : Role) (s : PortState) → (is_root_or_designated r ≡ false → is_discarding s ≡ true)
     → is_forwarding s ≡ true → is_root_or_designated r ≡ true
 active_role Root s quiet e = refl
 active_role Designated s quiet e = refl
 active_role _ s quiet e = absurd (not_both s (quiet refl) e)
 
 -- a Root or Designated port is enabled
-role_up : (id : ℕ) (root : Vector) (p : Port) (r : Role) → HasRole id root p r → is_root_or_designated r ≡ true
+pub role_up : (id : ℕ) (root : Vector) (p : Port) (r : Role) → HasRole id root p r → is_root_or_designated r ≡ true
     → p.port_enabled ≡ true
 role_up id root p Root h e = h.0
 role_up id root p Designated h e = h.0
 role_up id root p _ h e = cc
 
 -- a port in the tree that is not Designated is Root
-other_is_root : (r : Role) → is_root_or_designated r ≡ true → is_designated r ≡ false → is_root r ≡ true
+pub other_is_root : (r : Role) → is_root_or_designated r ≡ true → is_designated r ≡ false → is_root r ≡ true
 other_is_root Root e d = refl
 other_is_root _ e d = cc
 
@@ -188,7 +188,7 @@ stands plan machines net e m p at =
     }
 
 -- the port at a link end has a path cost of at least 1
-cost_above : (plan : Plan) (machines : List Machine) → Network plan machines → (k : ℕ) (link : LinkPlan) (e : End)
+pub cost_above : (plan : Plan) (machines : List Machine) → Network plan machines → (k : ℕ) (link : LinkPlan) (e : End)
     → numbered plan.links k ≡ Some link
     → IsEndOf link e → (m : Machine) (p : Port) → StandsAt machines e m p → 1 ≤ p.cost
 cost_above plan machines net k link e at which m p stands_at =
@@ -206,7 +206,7 @@ cost_above plan machines net k link e at which m p stands_at =
     of_end both (inr h) = let P : End → Type 0 = λ f. HasPortAt machines f in subst P h both.1
 
 -- root path cost rises from a Designated end to the other end, if that is Forwarding
-rise : (plan : Plan) (machines : List Machine) → Network plan machines → (k : ℕ) (link : LinkPlan)
+pub rise : (plan : Plan) (machines : List Machine) → Network plan machines → (k : ℕ) (link : LinkPlan)
     → numbered plan.links k ≡ Some link
     → (upper lower : End) → IsEndOf link lower → (m n : Machine) (p q : Port) → StandsAt machines upper m p
     → StandsAt machines lower n q
@@ -239,7 +239,7 @@ rises plan machines net k link at (m, n, p, q, here, there, p_forwarding, q_forw
     (active_role p.role p.state sp.port.quiet p_forwarding) in
     let q_up = role_up n.id (root_vector n.id n.ports) q q.role sq.port.role
     (active_role q.role q.state sq.port.quiet q_forwarding) in
-    elim ((numbered-All (IsSettledLink machines) plan.links k link at net.settled.links m n p q here there).both p_up q_up) [
+    elim (numbered-All (IsSettledLink machines) plan.links k link at net.settled.links m n p q here there p_up q_up) [
       | inl leads ↦ inl (rise plan machines net k link at link.a link.b (inr refl) m n p q here there leads
           q_forwarding)
       | inr leads ↦ inr (rise plan machines net k link at link.b link.a (inl refl) n m q p there here leads

@@ -1,4 +1,4 @@
--- The test whether a network has converged is right.
+-- The test whether a network is settled is right.
 use Rattle.std.proofs.Common.{◌≡◌, ◌⊎◌, List, [], ◌∷◌, Some, None, refl, sym, ap, ap₂, ◌∙◌, Bool, true, false, ◌&&◌}
 use Rattle.std.proofs.Common.{◌||◌, not, inl, inr, subst}
 use Rattle.std.specs.declared.option.Option.{Option}
@@ -15,8 +15,8 @@ use Rattle.pb_rstp.specs.Ports.{Machine, is_designated, port_of}
 use Rattle.pb_rstp.specs.declared.port.Info.{Info}
 use Rattle.pb_rstp.specs.declared.port.Port.{Port}
 use Rattle.pb_rstp.specs.Messages.{known}
-use Rattle.pb_rstp.specs.Tree.{offered, StandsAt, LeadsTo, IsSettledBetween, IsSettledLink, Place, place_in, place_at}
-use Rattle.pb_rstp.specs.Tree.{stores_test, leads_test, is_settled_by, is_settled_between, is_settled, TestTells}
+use Rattle.pb_rstp.specs.Tree.{offered, StandsAt, LeadsTo, IsSettledLink, Place, place_in, place_at, stores_test}
+use Rattle.pb_rstp.specs.Tree.{leads_test, is_settled_between, is_settled, TestTells}
 
 -- if the test of one end passes, that end leads to the other
 leads : (m : Machine) (p q : Port) → leads_test m p q ≡ true → LeadsTo m p q
@@ -30,45 +30,37 @@ leads m p q e =
     by_info None stored t = cc
     by_info (Some info) stored t = (info, stored, same-one (known info) (offered m p) t)
 
--- if one of two tests passes, one end leads to the other
-one_leads : (m n : Machine) (p q : Port) → (leads_test m p q || leads_test n q p) ≡ true → LeadsTo m p q ⊎ LeadsTo n q p
-one_leads m n p q e = by_test (leads_test m p q) (leads_test n q p) refl refl e
+-- if the test of a link with enabled ends passes, one end leads to the other
+one_leads : (m n : Machine) (p q : Port) → p.port_enabled ≡ true → q.port_enabled ≡ true
+    → (not (p.port_enabled && q.port_enabled) || leads_test m p q || leads_test n q p) ≡ true
+    → LeadsTo m p q ⊎ LeadsTo n q p
+one_leads m n p q p_up q_up e = by_test (leads_test m p q) (leads_test n q p) refl refl (sym both ∙ e)
   where
+    both : (not (p.port_enabled && q.port_enabled) || leads_test m p q || leads_test n q p)
+        ≡ (leads_test m p q || leads_test n q p)
+    both = ap₂ (λ a b. not (a && b) || leads_test m p q || leads_test n q p) p_up q_up
+
     by_test : (s t : Bool) → leads_test m p q ≡ s → leads_test n q p ≡ t → (s || t) ≡ true
         → LeadsTo m p q ⊎ LeadsTo n q p
     by_test true t es et o = inl (leads m p q es)
     by_test false true es et o = inr (leads n q p et)
     by_test false false es et o = cc
 
--- ports that pass the test have converged
-settled_between : (a b : Place) → is_settled_by a.port.port_enabled b.port.port_enabled a b ≡ true
-    → IsSettledBetween a.machine a.port b.machine b.port
-settled_between a b e =
-    record {
-      both = λ up_a up_b. one_leads a.machine b.machine a.port b.port (sym (by up_a up_b) ∙ e);
-      first_alone = λ up_a down_b. sym (by up_a down_b) ∙ e;
-      second_alone = λ down_a up_b. sym (by down_a up_b) ∙ e;
-    }
-  where
-    by : {u v : Bool} → a.port.port_enabled ≡ u → b.port.port_enabled ≡ v
-        → is_settled_by a.port.port_enabled b.port.port_enabled a b ≡ is_settled_by u v a b
-    by is_a is_b = ap₂ (λ u v. is_settled_by u v a b) is_a is_b
-
 -- the bridge and the port at a link end are found
-placed_at : (machines : List Machine) (e : End) (m : Machine) (p : Port) → StandsAt machines e m p
+pub placed_at : (machines : List Machine) (e : End) (m : Machine) (p : Port) → StandsAt machines e m p
     → place_at machines e ≡ Some (record { machine = m; port = p })
 placed_at machines e m p s =
     ap (λ o. option_and_then (place_in e.port) o) s.machine
     ∙ ap (λ o. option_map (λ (q : Port). let place : Place = record { machine = m; port = q } in place) o) s.port
 
--- a link that passes the test has converged
+-- a link that passes the test is settled
 settled_link : (machines : List Machine) (link : LinkPlan)
     → is_settled_between (place_at machines link.a) (place_at machines link.b) ≡ true → IsSettledLink machines link
-settled_link machines link e m n p q here there =
-    settled_between (record { machine = m; port = p }) (record { machine = n; port = q })
+settled_link machines link e m n p q here there p_up q_up =
+    one_leads m n p q p_up q_up
     (sym (ap₂ is_settled_between (placed_at machines link.a m p here) (placed_at machines link.b n q there)) ∙ e)
 
--- if the test of a network passes, each link has converged
+-- if the test of a network passes, each link is settled
 pub settled_links : (plan : Plan) (machines : List Machine) → is_settled plan machines ≡ true
     → AllByRecursion (IsSettledLink machines) plan.links
 settled_links plan machines e = go plan.links e
@@ -93,7 +85,7 @@ leads_passes m p q leads =
     ap₂ (λ a b. a && b) (ap₂ (λ a b. a && not b) leads.here leads.there) stores
 
 -- the bridge and the port that are found are those at the link end
-place_stands : (machines : List Machine) (e : End) (a : Place) → place_at machines e ≡ Some a
+pub place_stands : (machines : List Machine) (e : End) (a : Place) → place_at machines e ≡ Some a
     → StandsAt machines e a.machine a.port
 place_stands machines e a is = by_machine (numbered machines e.bridge) refl is
   where
@@ -112,37 +104,33 @@ place_stands machines e a is = by_machine (numbered machines e.bridge) refl is
     by_machine None at is = cc
     by_machine (Some m) at is = by_port m at (port_of m.ports e.port) refl is
 
--- ports that have converged pass the test
-between_passes : (a b : Place) → IsSettledBetween a.machine a.port b.machine b.port
-    → is_settled_by a.port.port_enabled b.port.port_enabled a b ≡ true
-between_passes a b h = by_enabled a.port.port_enabled b.port.port_enabled refl refl
-  where
-    by_leads : LeadsTo a.machine a.port b.port ⊎ LeadsTo b.machine b.port a.port
-        → (leads_test a.machine a.port b.port || leads_test b.machine b.port a.port) ≡ true
-    by_leads (inl l) = ap (λ t. t || leads_test b.machine b.port a.port) (leads_passes a.machine a.port b.port l)
-    by_leads (inr l) =
-        or_right (leads_test a.machine a.port b.port) (leads_test b.machine b.port a.port)
-        (leads_passes b.machine b.port a.port l)
-
-    by_enabled : (u v : Bool) → a.port.port_enabled ≡ u → b.port.port_enabled ≡ v → is_settled_by u v a b ≡ true
-    by_enabled true true eu ev = by_leads (h.both eu ev)
-    by_enabled true false eu ev = h.first_alone eu ev
-    by_enabled false true eu ev = h.second_alone eu ev
-    by_enabled false false eu ev = refl
-
--- a link that has converged passes the test
+-- a settled link passes the test
 link_passes : (machines : List Machine) (link : LinkPlan) → IsSettledLink machines link
     → is_settled_between (place_at machines link.a) (place_at machines link.b) ≡ true
 link_passes machines link settled = by_places (place_at machines link.a) (place_at machines link.b) refl refl
   where
+    by_leads : (m n : Machine) (p q : Port) (u : Bool) → LeadsTo m p q ⊎ LeadsTo n q p
+        → (u || leads_test m p q || leads_test n q p) ≡ true
+    by_leads m n p q true h = refl
+    by_leads m n p q false (inl h) = ap (λ t. t || leads_test n q p) (leads_passes m p q h)
+    by_leads m n p q false (inr h) = or_right (leads_test m p q) (leads_test n q p) (leads_passes n q p h)
+
+    by_enabled : (m n : Machine) (p q : Port) (u v : Bool) → p.port_enabled ≡ u → q.port_enabled ≡ v
+        → StandsAt machines link.a m p
+        → StandsAt machines link.b n q
+        → (not (u && v) || leads_test m p q || leads_test n q p) ≡ true
+    by_enabled m n p q true true eu ev here there = by_leads m n p q false (settled m n p q here there eu ev)
+    by_enabled m n p q _ _ eu ev here there = refl
+
     by_places : (a b : Option Place) → place_at machines link.a ≡ a → place_at machines link.b ≡ b
         → is_settled_between a b ≡ true
     by_places (Some a) (Some b) ea eb =
-        between_passes a b
-        (settled a.machine b.machine a.port b.port (place_stands machines link.a a ea) (place_stands machines link.b b eb))
+        by_enabled a.machine b.machine a.port b.port a.port.port_enabled b.port.port_enabled refl refl
+        (place_stands machines link.a a ea)
+        (place_stands machines link.b b eb)
     by_places _ _ ea eb = refl
 
--- if each link has converged, the test of the network passes
+-- if each link is settled, the test of the network passes
 pub links_pass : (plan : Plan) (machines : List Machine) → AllByRecursion (IsSettledLink machines) plan.links
     → is_settled plan machines ≡ true
 links_pass plan machines settled = go plan.links settled

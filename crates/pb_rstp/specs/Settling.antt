@@ -155,21 +155,26 @@ is_news_elsewhere heard ports now =
 abbrev pub is_flushed : Option Heard → List Moving → Moving → Bool
 is_flushed heard ports p = is_news_elsewhere heard ports p.now || has_closed p
 
+-- the port of a prompt bridge reports a topology change already: its tcWhile runs (clause 17.21.7)
+abbrev pub is_reporting : Bool → Port → Bool
+is_reporting prompt now = prompt && nat_lt 0 now.tc_while
+
 -- the port starts to report a topology change: some port became Forwarding, or another port received one (clauses
--- 17.21.18 and 17.31)
-abbrev pub is_telling : Option Heard → List Moving → Port → Bool
-is_telling heard ports now =
+-- 17.21.18 and 17.31); at a prompt bridge only if it does not report one already (clause 17.21.7)
+abbrev pub is_telling : Bool → Option Heard → List Moving → Port → Bool
+is_telling prompt heard ports now =
     is_root_or_designated now.role
     && (list_any has_opened ports || list_any (λ number. not (number == now.number)) (changed_at heard ports))
+    && not (is_reporting prompt now)
 
 -- a port that starts to report a topology change sets tcWhile and newInfo (clause 17.21.7)
-abbrev pub with_tc_while : Option Heard → List Moving → Port → Port → Port
-with_tc_while heard ports was now =
-    if is_telling heard ports now then record now { tc_while = 3; new_info = true } else now
+abbrev pub with_tc_while : Bool → Option Heard → List Moving → Port → Port → Port
+with_tc_while prompt heard ports was now =
+    if is_telling prompt heard ports now then record now { tc_while = 3; new_info = true } else now
 
 -- stage 6: topology changes are passed on (clauses 17.21.17, 17.21.18 and 17.31)
-abbrev pub with_topology : Option Heard → List Moving → List Moving
-with_topology heard ports = each (with_tc_while heard ports) ports
+abbrev pub with_topology : Bool → Option Heard → List Moving → List Moving
+with_topology prompt heard ports = each (with_tc_while prompt heard ports) ports
 
 -- Stage 7, at a prompt bridge: a port that stays Designated sends if its designated priority vector or its times have
 -- changed in this call (updtRolesTree, clause 17.21.25, and state UPDATE of clause 17.27).
@@ -217,7 +222,7 @@ in_line id ports = with_states (with_infos (with_agreements id (with_roles id po
 
 -- stages 1 to 7: all that is done before BPDUs are sent
 abbrev pub settled : Bool → ℕ → Option Heard → List Moving → List Moving
-settled prompt id heard ports = with_updates prompt id (with_topology heard (with_proposal heard (in_line id ports)))
+settled prompt id heard ports = with_updates prompt id (with_topology prompt heard (with_proposal heard (in_line id ports)))
 
 -- the ports whose state differs from that before the call, with their new states
 abbrev pub state_changes : List Moving → List (ℕ × PortState)

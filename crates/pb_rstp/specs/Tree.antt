@@ -1,4 +1,4 @@
--- Networks that have converged, and the forest of their Forwarding ports.
+-- Networks that are settled or have converged, and the forest of their Forwarding ports.
 use Rattle.std.specs.Prelude.{◌≡◌, ℕ, ◌+◌, ◌<◌, ◌≤◌, ◌⊎◌, Bool, true, false, List, [], ◌∷◌, Some, None, map, length, nat_eq, ◌&&◌, ◌||◌, not}
 use Rattle.std.specs.declared.option.Option.{Option}
 use Rattle.std.specs.List.{list_all, AllByRecursion}
@@ -52,22 +52,34 @@ pub record LeadsTo (m : Machine) (p : Port) (q : Port) : Type 0 where
   pub there : is_designated q.role ≡ false
   pub stores : StoresOffer q m p
 
--- a link between these two ports has converged: if both are enabled, one is Designated, and the other stores what that
--- one offers; a port that is enabled alone is Designated, so it keeps nothing that it heard from the other
-pub record IsSettledBetween (m : Machine) (p : Port) (n : Machine) (q : Port) : Type 0 where
-  pub both : p.port_enabled ≡ true → q.port_enabled ≡ true → LeadsTo m p q ⊎ LeadsTo n q p
-  pub first_alone : p.port_enabled ≡ true → q.port_enabled ≡ false → is_designated p.role ≡ true
-  pub second_alone : p.port_enabled ≡ false → q.port_enabled ≡ true → is_designated q.role ≡ true
-
--- a link has converged
+-- a link is settled: if both ends are enabled, one is Designated, and the other stores what that one offers
 abbrev pub IsSettledLink : List Machine → LinkPlan → Type 0
 IsSettledLink machines link =
-    (m n : Machine) (p q : Port) → StandsAt machines link.a m p → StandsAt machines link.b n q → IsSettledBetween m p n q
+    (m n : Machine) (p q : Port) → StandsAt machines link.a m p → StandsAt machines link.b n q
+    → p.port_enabled ≡ true → q.port_enabled ≡ true → LeadsTo m p q ⊎ LeadsTo n q p
 
--- a network has converged: each port has its role and state, and each link has converged
+-- a network is settled: each port has its role and state, and each link is settled
 pub record IsSettled (plan : Plan) (machines : List Machine) : Type 0 where
   pub in_line : AllByRecursion IsInLine machines
   pub links : AllByRecursion (IsSettledLink machines) plan.links
+
+-- A link between these two ports has converged. A port that is enabled alone is Designated: what it heard has aged out.
+-- If both are enabled and one is a Root port, both are Forwarding.
+pub record IsConvergedBetween (p q : Port) : Type 0 where
+  pub first_alone : p.port_enabled ≡ true → q.port_enabled ≡ false → is_designated p.role ≡ true
+  pub second_alone : p.port_enabled ≡ false → q.port_enabled ≡ true → is_designated q.role ≡ true
+  pub forwarding : p.port_enabled ≡ true → q.port_enabled ≡ true → (is_root p.role || is_root q.role) ≡ true
+      → (is_forwarding p.state ≡ true) × (is_forwarding q.state ≡ true)
+
+-- a link has converged
+abbrev pub IsConvergedLink : List Machine → LinkPlan → Type 0
+IsConvergedLink machines link =
+    (m n : Machine) (p q : Port) → StandsAt machines link.a m p → StandsAt machines link.b n q → IsConvergedBetween p q
+
+-- a network has converged: it is settled, and each link has converged
+pub record IsConverged (plan : Plan) (machines : List Machine) : Type 0 where
+  pub settled : IsSettled plan machines
+  pub links : AllByRecursion (IsConvergedLink machines) plan.links
 
 -- The same as tests, which the code computes.
 
@@ -97,24 +109,42 @@ place_in port m = option_map (λ p. let place : Place = record { machine = m; po
 abbrev pub place_at : List Machine → End → Option Place
 place_at machines e = option_and_then (place_in e.port) (numbered machines e.bridge)
 
--- a link has converged, as a test: whether its ends are enabled comes first
-abbrev pub is_settled_by : Bool → Bool → Place → Place → Bool
-is_settled_by true true a b = leads_test a.machine a.port b.port || leads_test b.machine b.port a.port
-is_settled_by true false a b = is_designated a.port.role
-is_settled_by false true a b = is_designated b.port.role
-is_settled_by false false a b = true
-
--- a link between these two ports has converged, as a test
+-- a link between these two ports is settled, as a test
 abbrev pub is_settled_between : Option Place → Option Place → Bool
-is_settled_between (Some a) (Some b) = is_settled_by a.port.port_enabled b.port.port_enabled a b
+is_settled_between (Some a) (Some b) =
+    not (a.port.port_enabled && b.port.port_enabled)
+    || leads_test a.machine a.port b.port || leads_test b.machine b.port a.port
 is_settled_between None b = true
 is_settled_between (Some a) None = true
 
--- each link of the plan has converged, as a test
+-- each link of the plan is settled, as a test
 abbrev pub is_settled : Plan → List Machine → Bool
 is_settled plan machines = list_all (λ link. is_settled_between (place_at machines link.a) (place_at machines link.b)) plan.links
 
--- the test passes if and only if each link has converged
+-- two enabled ports of a link have converged, as a test: if one is a Root port, both are Forwarding
+abbrev pub are_forwarding : Port → Port → Bool
+are_forwarding p q =
+    not (is_root p.role || is_root q.role) || (is_forwarding p.state && is_forwarding q.state)
+
+-- a link has converged, as a test: whether its ends are enabled comes first
+abbrev pub is_converged_by : Bool → Bool → Port → Port → Bool
+is_converged_by true true p q = are_forwarding p q
+is_converged_by true false p q = is_designated p.role
+is_converged_by false true p q = is_designated q.role
+is_converged_by false false p q = true
+
+-- a link between these two ports has converged, as a test
+abbrev pub is_converged_between : Option Place → Option Place → Bool
+is_converged_between (Some a) (Some b) = is_converged_by a.port.port_enabled b.port.port_enabled a.port b.port
+is_converged_between None b = true
+is_converged_between (Some a) None = true
+
+-- each link of the plan has converged, as a test
+abbrev pub are_converged : Plan → List Machine → Bool
+are_converged plan machines =
+    list_all (λ link. is_converged_between (place_at machines link.a) (place_at machines link.b)) plan.links
+
+-- the test passes if and only if each link is settled
 abbrev pub TestTells : Type 0
 TestTells =
     (plan : Plan) (machines : List Machine)
@@ -215,7 +245,7 @@ pub record AreForests (plan : Plan) (machines : List Machine) : Type 0 where
   pub services : (vid : ℕ) → IsForestBehindRoots plan machines (is_active plan (shape_of plan machines) vid)
   pub rises : CostRisesAlong plan machines
 
--- in a network that has converged, and in which no root path cost is cut, the Forwarding ports form forests
+-- in a settled network in which no root path cost is cut, the Forwarding ports form forests
 abbrev pub SettledIsForest : Type 0
 SettledIsForest =
     (plan : Plan) (machines : List Machine) → IsSound plan → AreMachines plan machines → IsSettled plan machines

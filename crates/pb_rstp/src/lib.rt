@@ -29,7 +29,7 @@ pub use laws::{
     calls_keep_bridges, calls_keep_line, changes_lead_on, cost_rises, planned_are_machines,
     settled_is_forest, start_is_in_line, test_tells,
 };
-pub use network::is_settled;
+pub use network::{is_converged, is_settled};
 pub use role::Role;
 pub use rstp::Rstp;
 pub use vector::Vector;

@@ -102,7 +102,7 @@ pub(crate) fn settle(
 {
     bring_in_line(id, &before.root, ports);
     answer_proposal(heard, ports);
-    report(heard, ports);
+    report(prompt, heard, ports);
     update(prompt, id, before, ports);
 }
 

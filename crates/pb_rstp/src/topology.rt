@@ -4,6 +4,7 @@ ghost use Rattle.std.specs.Prelude.{◌≡◌, ◌==◌, ◌&&◌, ◌||◌, not
 ghost use Rattle.std.specs.List.{list_any};
 ghost use Rattle.pb_rstp.specs.Ports.{is_root_or_designated};
 ghost use Rattle.pb_rstp.specs.Settling.{moved_on, has_opened, has_closed, changed_at, with_topology, flushed};
+ghost use Rattle.pb_rstp.specs.Settling.{is_reporting};
 
 use crate::moving::{Heard, Moving};
 use crate::port::{Port, is_discarding, is_forwarding};
@@ -110,34 +111,47 @@ pub(crate) fn flushed(
     Ok(numbers)
 }
 
-/// Returns whether the port starts to report a topology change: a port of the bridge became Forwarding, itself too, or
-/// another port received one.
-fn is_telling(is_any_opened: bool, changed: Option<u8>, p: &Port) -> bool
-    ensures { result ≡ (is_root_or_designated p.now.role
-        && (is_any_opened || list_any (λ number. not (number == p.now.number)) (option_to_list changed))) }
+/// Returns whether the port of a prompt bridge reports a topology change already (IEEE 802.1D-2004 clause 17.21.7,
+/// newTcWhile).
+fn is_reporting(prompt: bool, p: &Port) -> bool
+    ensures { result ≡ is_reporting prompt p.now }
 {
-    p.role.is_root_or_designated() && (is_any_opened || is_elsewhere(changed, p.number))
+    prompt && p.tc_while > 0
+}
+
+/// Returns whether the port starts to report a topology change: a port of the bridge became Forwarding, itself too, or
+/// another port received one. A port of a prompt bridge that reports one already does not start anew.
+fn is_telling(prompt: bool, is_any_opened: bool, changed: Option<u8>, p: &Port) -> bool
+    ensures { result ≡ (is_root_or_designated p.now.role
+        && (is_any_opened || list_any (λ number. not (number == p.now.number)) (option_to_list changed))
+        && not (is_reporting prompt p.now)) }
+{
+    p.role.is_root_or_designated()
+        && (is_any_opened || is_elsewhere(changed, p.number))
+        && !is_reporting(prompt, p)
 }
 
 /// Starts `tc_while` and sets `new_info`, if the port starts to report a topology change.
-fn report_at(is_any_opened: bool, changed: Option<u8>, p: &mut Moving)
+fn report_at(prompt: bool, is_any_opened: bool, changed: Option<u8>, p: &mut Moving)
     ensures { p.exit.now ≡ moved_on (λ was now. if is_root_or_designated now.role
         && (is_any_opened || list_any (λ number. not (number == now.number)) (option_to_list changed))
+        && not (is_reporting prompt now)
         then record now { tc_while = 3; new_info = true } else now) p.entry.now }
 {
-    if is_telling(is_any_opened, changed, &p.now) {
+    if is_telling(prompt, is_any_opened, changed, &p.now) {
         p.now.tc_while = 3;
         p.now.new_info = true;
     }
 }
 
-/// Starts the reports of topology changes: step 6 of 8 (IEEE 802.1D-2004 clause 17.31).
-pub(crate) fn report(heard: Option<Heard>, ports: &mut [Moving])
-    ensures { ports.new ≡ with_topology heard ports.old }
+/// Starts the reports of topology changes: step 6 of 8 (IEEE 802.1D-2004 clauses 17.21.7 and 17.31). A prompt bridge
+/// leaves a running `tc_while` alone. Others start it anew.
+pub(crate) fn report(prompt: bool, heard: Option<Heard>, ports: &mut [Moving])
+    ensures { ports.new ≡ with_topology prompt heard ports.old }
 {
     let is_any_opened = has_any_opened(ports);
     let changed = changed_at(heard, ports);
     for p in ports.iter_mut() {
-        report_at(is_any_opened, changed, p);
+        report_at(prompt, is_any_opened, changed, p);
     }
 }

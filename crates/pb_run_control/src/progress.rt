@@ -5,10 +5,11 @@ use pb_threads::Gate;
 /// The reason why frames may enter that were held back until the bridges converged.
 #[derive(Clone, Copy, PartialEq, Eq, Debug)]
 pub enum Opening {
-    /// The bridges seem settled. The one that ticked most has ticked this often.
-    Settled(u64),
-    /// The bridges do not seem settled, and the wait is over. The one that ticked least has ticked this often.
-    Unsettled(u64),
+    /// The bridges seem to have converged. The one that ticked most has ticked this often.
+    Converged(u64),
+    /// The bridges do not seem to have converged, and the wait is over. The one that ticked least has ticked this
+    /// often.
+    NotConverged(u64),
 }
 
 /// The change of a customer port's peer, at a socket that stays when its peer leaves or that waits for its peer.

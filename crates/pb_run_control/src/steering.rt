@@ -139,8 +139,8 @@ impl<'a, G> Steering<'a, G> {
         }
     }
 
-    /// Checks whether all bridges seem settled, by their own clocks.
-    fn are_settled(&self) -> bool {
+    /// Checks whether all bridges seem to have converged, by their own clocks.
+    fn have_converged(&self) -> bool {
         let mut bridge = 0u8;
         for course in &self.courses {
             bridge = bridge.wrapping_add(1);
@@ -168,12 +168,12 @@ impl<'a, G> Steering<'a, G> {
         if self.open.load(Ordering::SeqCst) != 0 {
             return None;
         }
-        if self.are_settled() {
-            return Some(Opening::Settled(self.traffic.ticks()));
+        if self.have_converged() {
+            return Some(Opening::Converged(self.traffic.ticks()));
         }
         let ticks = self.slowest();
         if ticks >= PATIENCE {
-            return Some(Opening::Unsettled(ticks));
+            return Some(Opening::NotConverged(ticks));
         }
         None
     }

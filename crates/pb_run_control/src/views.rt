@@ -11,8 +11,8 @@ use std::sync::atomic::{AtomicU64, Ordering};
 /// The number of local ports of a bridge.
 const PORTS: usize = 16;
 
-/// The number of ticks without a change after which a bridge may seem settled: two hello times (IEEE 802.1D-2004 table
-/// 17-1).
+/// The number of ticks without a change after which a bridge may seem to have converged: two hello times (IEEE
+/// 802.1D-2004 table 17-1).
 const QUIET: u64 = 4;
 
 /// The views of a bridge's ports, as its worker shows them.
@@ -129,8 +129,8 @@ impl Views {
         views
     }
 
-    /// Checks whether the bridge seems settled after `ticks` ticks: each port has the state of its role, and none has
-    /// changed for two hello times.
+    /// Checks whether the bridge seems to have converged after `ticks` ticks: each port has the state of its role, and
+    /// none has changed for two hello times.
     pub(crate) fn are_quiet(&self, ticks: u64) -> bool {
         if ticks < self.stirred.load(Ordering::SeqCst).saturating_add(QUIET) {
             return false;

@@ -1,6 +1,6 @@
 -- What one more step of receiving changes of what a bridge received, transmitted and set.
 use Rattle.std.proofs.Common.{◌≡◌, ◌+◌, ◌==◌, ◌||◌, ◌++◌, ℕ, suc, Bool, false, if◌then◌else◌, List, [], ◌∷◌}
-use Rattle.std.proofs.Common.{Option, map, slice_index_or, sym, ap, ◌∙◌, add-one, append-nil}
+use Rattle.std.proofs.Common.{◌<◌, Option, Some, length, map, slice_get, slice_index_or, refl, sym, ap, ◌∙◌, add-one, append-nil, arith}
 use Rattle.std.proofs.lemmas.Grind.{flat_map-append}
 use Rattle.std.specs.List.{list_any}
 use Rattle.pb_frame.proofs.Lists.{false-unless, true-false, list_any-rest}
@@ -49,3 +49,9 @@ gave_none items p port steps news item learnt outcome moved old grown =
     old ∙ sym (append-nil (transmitted p steps))
     ∙ sym (flat_map-append (transmitted_by p) steps (Receive port item learnt outcome moved ∷ []))
     ∙ ap (transmitted p) (sym grown)
+
+-- the item that was received is the first of those that were known to be on the ring
+pub first_known : {X : Type 0} (known : List X) (x : X) → 0 < length known
+    → ((y : X) → slice_get known 0 ≡ Some y → Some x ≡ Some y) → slice_get known 0 ≡ Some x
+first_known [] x some given = absurd (omega arith)
+first_known (y ∷ ys) x some given = sym (given y refl)

@@ -7,4 +7,5 @@ pub mod Stations
 pub mod Workers
 pub mod Recording
 pub mod Lossless
+pub mod Rooms
 pub mod Drained

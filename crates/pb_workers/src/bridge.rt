@@ -1,9 +1,9 @@
 //! The worker of a bridge.
 
 ghost use Rattle.std.specs.Prelude.{◌≡◌, ◌&&◌, ◌<◌, ◌≤◌, ◌+◌, ◌-◌, ℕ, [], true, false, IsTrue, IfOk, OnErr};
-ghost use Rattle.std.specs.Prelude.{length, map, vec_len, slice_index_or};
+ghost use Rattle.std.specs.Prelude.{length, map, vec_len, slice_get, slice_index_or, Some};
 ghost use Rattle.std.specs.List.{list_any};
-ghost use Rattle.rtrb.specs.Ring.{sent, received as received_over};
+ghost use Rattle.rtrb.specs.Ring.{sent, received as received_over, known_items};
 ghost use Rattle.pb_frame.specs.Lists.{IsBeginning};
 ghost use Rattle.pb_lan.specs.LaneLists.{taken, put};
 ghost use Rattle.pb_lan.specs.Laws.{is_setting};
@@ -16,7 +16,7 @@ ghost use Rattle.pb_relay.specs.Changes.{HasSet};
 ghost use Rattle.pb_relay.specs.Standing.{at_start};
 ghost use Rattle.pb_ring.specs.Rings.{shown_at};
 ghost use Rattle.pb_workers.specs.Bridges.{AreUsed};
-ghost use Rattle.pb_workers.specs.Lossless.{refuses_when_full, HasRoomBeside};
+ghost use Rattle.pb_workers.specs.Lossless.{refuses_when_full};
 ghost use Rattle.pb_workers.specs.Settings.{settings};
 
 use crate::access::Access;
@@ -24,10 +24,10 @@ use crate::lane::LaneWorker;
 use crate::mode::Mode;
 use crate::receipt::received;
 use crate::refusal::{Refusal, Taken, turn};
-use crate::room::{has_room_beside, queue_of, take_in};
+use crate::room::{queue_of, take_in};
 use crate::used::used_ports;
 use pb_frame::{Memory, index_of};
-use pb_lan::Plan;
+use pb_lan::{Item, Plan};
 use pb_relay::{Bridge, BridgeFault};
 use pb_ring::{Inlets, Outlets, Wiring};
 use pb_threads::{Finish, Turn, TurnStatus, Wish};
@@ -53,7 +53,7 @@ pub struct BridgeWorker<W: Wiring> {
     pub(crate) next: usize,
     /// Whether the worker fulfils wishes.
     pub(crate) sets: bool,
-    /// Whether an item waits on its ring while a queue is full to which the bridge may copy it.
+    /// Whether an item waits on its ring while a queue is full to which the bridge relays it.
     pub(crate) waits: bool,
     /// The most items that wait at each port of the bridge.
     pub(crate) queue: u16,
@@ -97,6 +97,7 @@ fn new_bridge(alloc: Global, plan: &Plan, number: u8, keeps: bool) -> Result<Bri
 }
 
 impl<W: Wiring> BridgeWorker<W> {
+    ghost use Rattle.pb_workers.specs.Rooms.{may_receive};
     ghost use Rattle.pb_workers.specs.Workers.{IsModeFor, AreNewSides, IsSameBridge, KeepsRings, HasRings};
 
     /// Returns the worker of the bridge of this number, which has taken no step, over rings that nothing has passed. It
@@ -159,13 +160,23 @@ impl<W: Wiring> BridgeWorker<W> {
         Ok(true)
     }
 
-    /// Checks whether the worker may receive at a port. If items wait for full queues, it may if each other Forwarding
-    /// port has room for one more.
+    /// Checks whether the worker may receive the first item that came to a port. If items wait for full queues, it may
+    /// if each port to which the bridge relays this item has room for one more.
+    ///
+    /// If the plan counts each traffic class by itself, all classes of a port together must have this room. So each
+    /// class has it. An item that the bridge filters or reads as a BPDU waits for no queue.
     fn may_receive(&self, port: u8) -> bool
-        ensures { W.waits ≡ true → IsTrue result
-            → HasRoomBeside self.now.bridge.plan self.now.bridge.number self.now.bridge.steps port }
+        requires port { (0 < port) × (port ≤ vec_len self.now.ins.ends) }
+        requires used { is_used (port_at self.now.bridge.plan self.now.bridge.number port) ≡ true }
+        requires item { 0 < length (shown_at (λ i. known_items i.end) self.now.ins.ends.items (port - 1)) }
+        ensures { (item : Item) → slice_get (shown_at (λ i. known_items i.end) self.now.ins.ends.items (port - 1)) 0
+            ≡ Some item → result ≡ may_receive self.now port item }
     {
-        !self.waits || has_room_beside(&self.bridge, self.queue, port)
+        if !self.waits {
+            return true;
+        }
+        let item = self.ins.first(index_of(port));
+        self.bridge.has_room_for(port, item, self.queue)
     }
 
     /// Receives the first item that came to a port, if there is one and the worker may receive it.

@@ -155,6 +155,7 @@ fn figure_4_settles(rt: HostRuntime) -> Result<(), Fail> {
     const ROWS: &[Row] = &[
         Row::Rounds(200),
         Row::Settled(Some(true)),
+        Row::Converged(Some(true)),
         Row::Trees(AS_FIGURE_4),
     ];
     walks(&rt, rt.alloc(), &FIGURE_4, ROWS)
@@ -165,6 +166,7 @@ fn figure_5_settles(rt: HostRuntime) -> Result<(), Fail> {
     const ROWS: &[Row] = &[
         Row::Rounds(200),
         Row::Settled(Some(true)),
+        Row::Converged(Some(true)),
         Row::Trees(AS_FIGURE_5),
     ];
     walks(&rt, rt.alloc(), &FIGURE_5, ROWS)

@@ -74,6 +74,7 @@ fn figure_6_settles(rt: HostRuntime) -> Result<(), Fail> {
     const ROWS: &[Row] = &[
         Row::Rounds(200),
         Row::Settled(Some(true)),
+        Row::Converged(Some(true)),
         Row::Trees(AS_FIGURE_6),
     ];
     walks(&rt, rt.alloc(), &FIGURE_6, ROWS)
@@ -84,6 +85,7 @@ fn figure_7_settles(rt: HostRuntime) -> Result<(), Fail> {
     const ROWS: &[Row] = &[
         Row::Rounds(200),
         Row::Settled(Some(true)),
+        Row::Converged(Some(true)),
         Row::Trees(AS_FIGURE_7),
     ];
     walks(&rt, rt.alloc(), &FIGURE_7, ROWS)

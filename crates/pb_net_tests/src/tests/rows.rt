@@ -136,6 +136,8 @@ pub(super) enum Row {
     Left(&'static [usize]),
     /// Whether the bridges are settled.
     Settled(Option<bool>),
+    /// Whether the bridges have converged.
+    Converged(Option<bool>),
     /// The role of each port of a bridge, if a spanning tree decides the states.
     Roles(u8, Option<&'static [(u8, Role)]>),
     /// Each port of each bridge is as drawn.

@@ -15,7 +15,11 @@ const TWO: Draft = Draft {
 
 #[test]
 fn the_plan_is_never_settled(rt: HostRuntime) -> Result<(), Fail> {
-    const ROWS: &[Row] = &[Row::Settled(None), Row::Roles(1, None)];
+    const ROWS: &[Row] = &[
+        Row::Settled(None),
+        Row::Converged(None),
+        Row::Roles(1, None),
+    ];
     walks(&rt, rt.alloc(), &JOINED, ROWS)
 }
 
@@ -25,10 +29,12 @@ fn two_bridges_settle(rt: HostRuntime) -> Result<(), Fail> {
         Row::Settled(Some(false)),
         Row::Does(Act::Tick(1)),
         Row::Crosses(1),
-        // B2 has heard B1.
+        // B2 has heard B1, and B1 waits for its agreement.
         Row::Settled(Some(true)),
+        Row::Converged(Some(false)),
         // B2 agrees, and B1 says that its port is open.
         Row::Crosses(2),
+        Row::Converged(Some(true)),
         Row::Crosses(1),
         Row::Settled(Some(true)),
         Row::Idle(Act::Transmit(2, 1)),

@@ -34,6 +34,7 @@ fn holds(alloc: Global, net: &mut Net, draft: &Draft, row: Row) -> Result<bool, 
             octets,
         } => enters_long(alloc, net, draft, customer, (head, octets)),
         Row::Settled(wanted) => Ok(net.settled(alloc)? == wanted),
+        Row::Converged(wanted) => Ok(net.converged(alloc)? == wanted),
         _ => Ok(is_done(net, draft, row)),
     }
 }

@@ -134,6 +134,12 @@ fn holds(alloc: Global, bridge: &mut Bridge, row: Row) -> Result<bool, Fail> {
         Row::HandsBack { port, item, fault } => hands_back(alloc, bridge, port, item, fault),
         Row::Learns(learnt) => Ok(tells_learnt(bridge, learnt)),
         Row::Waits { port, items } => Ok(waits(bridge, port, items)),
+        Row::HasRoom {
+            port,
+            item,
+            queue,
+            has,
+        } => Ok(has_room(bridge, port, &item.item(alloc)?, queue, has)),
         Row::Shows { port, item } => shows(alloc, bridge, port, item),
         Row::Sends { port, item } => sends(alloc, bridge, port, item),
         Row::Ticks { queued, dropped } => Ok(ticks(bridge, queued, dropped)),
@@ -255,6 +261,11 @@ fn has_steps(bridge: &Bridge, steps: usize) -> bool {
 /// Checks whether this many items wait at a port.
 fn waits(bridge: &Bridge, port: u8, items: u16) -> bool {
     bridge.has_port(port) && bridge.waiting(port) == items
+}
+
+/// Checks whether an item at a port has room, if so many items may wait at each port, or has none.
+fn has_room(bridge: &Bridge, port: u8, item: &Item, queue: u16, has: bool) -> bool {
+    bridge.has_port(port) && bridge.has_room_for(port, item, queue) == has
 }
 
 /// Checks whether this item is the next to leave a port.

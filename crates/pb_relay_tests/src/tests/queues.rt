@@ -198,3 +198,74 @@ const FULL: &[Row] = &[
 fn a_full_queue_takes_nothing(rt: HostRuntime) -> Result<(), Fail> {
     run(&rt, rt.alloc(), NARROW, 1, FULL)
 }
+
+/// The broadcast, before it is received.
+const COMING: Piece = Piece {
+    number: None,
+    hops: 0,
+    digits: BROADCAST,
+};
+
+/// A frame to the station from which the broadcast comes.
+const BACK: Piece = Piece {
+    number: None,
+    hops: 0,
+    digits: "02000000010102000000010208004142",
+};
+
+/// A frame to a reserved address.
+const RESERVED: Piece = Piece {
+    number: None,
+    hops: 0,
+    digits: "0180c200000202000000010208004142",
+};
+
+/// A frame has room if each port to which it is relayed has it. One item waits at ports 2 and 3, and none at port 1.
+const ROOM: &[Row] = &[
+    Row::HasRoom {
+        port: 1,
+        item: COMING,
+        queue: 1,
+        has: true,
+    },
+    Row::Receives {
+        port: 1,
+        item: COMING,
+        fate: Fate::Relayed(&[2, 3]),
+    },
+    Row::HasRoom {
+        port: 1,
+        item: COMING,
+        queue: 1,
+        has: false,
+    },
+    Row::HasRoom {
+        port: 1,
+        item: COMING,
+        queue: 2,
+        has: true,
+    },
+    Row::HasRoom {
+        port: 2,
+        item: COMING,
+        queue: 1,
+        has: false,
+    },
+    Row::HasRoom {
+        port: 2,
+        item: BACK,
+        queue: 1,
+        has: true,
+    },
+    Row::HasRoom {
+        port: 2,
+        item: RESERVED,
+        queue: 0,
+        has: true,
+    },
+];
+
+#[test]
+fn a_frame_needs_room_where_it_is_relayed(rt: HostRuntime) -> Result<(), Fail> {
+    run(&rt, rt.alloc(), NARROW, 1, ROOM)
+}

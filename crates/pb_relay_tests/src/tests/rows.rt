@@ -67,6 +67,13 @@ pub enum Row {
         port: u8,
         items: u16,
     },
+    /// An item at a port has room or not, if so many items may wait at each port.
+    HasRoom {
+        port: u8,
+        item: Piece,
+        queue: u16,
+        has: bool,
+    },
     /// This item is the next to leave a port.
     Shows {
         port: u8,

@@ -8,13 +8,15 @@ use std::process::Abort;
 use std::test::Fail;
 
 /// What the first bridge says after its proposal, and whether port 2 of a plain and of a prompt bridge sends then.
-const ROWS: [(Speech, bool, bool); 3] = [
+const ROWS: [(Speech, bool, bool); 4] = [
     // The same as before.
     (Speech::First(0x0e), false, false),
     // A root path cost that is not the one of before.
     (Speech::Costly(5), false, true),
     // A message age that is not the one of before.
     (Speech::Aged(256), false, true),
+    // A topology change while both ports report one, since port 1 became Forwarding: a plain bridge starts anew.
+    (Speech::First(0x0f), true, false),
 ];
 
 /// Returns whether the bridge sends on port 2 when it hears the speech on port 1.

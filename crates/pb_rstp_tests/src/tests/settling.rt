@@ -1,9 +1,9 @@
-//! Tests of whether bridges are settled.
+//! Tests of whether bridges are settled, and whether they have converged.
 
 use super::two::agreed;
 use super::{PROPOSAL, first_with, heard, with_one_port};
 use pb_lan::{BridgePlan, End, LinkPlan, Mac, Plan, PortState, Queues, Seq, Spanning, Text};
-use pb_rstp::{Rstp, is_settled};
+use pb_rstp::{Rstp, is_converged, is_settled};
 use std::alloc::{AllocError, Global};
 use std::test::Fail;
 
@@ -88,6 +88,12 @@ fn are_settled(alloc: Global, first: &Rstp, second: &Rstp) -> Result<bool, Alloc
     Ok(is_settled(&[first, second], &plan))
 }
 
+/// Checks whether the two bridges have converged.
+fn have_converged(alloc: Global, first: &Rstp, second: &Rstp) -> Result<bool, AllocError> {
+    let plan = plan(alloc, PAIR)?;
+    Ok(is_converged(&[first, second], &plan))
+}
+
 #[test]
 fn two_bridges_settle_by_a_proposal(rt: HostRuntime) -> Result<(), Fail> {
     let mut first = with_one_port(rt.alloc(), 1)?;
@@ -97,6 +103,19 @@ fn two_bridges_settle_by_a_proposal(rt: HostRuntime) -> Result<(), Fail> {
     assert!(rt; !are_settled(rt.alloc(), &first, &second)?);
     let (second, _) = agreed(rt.alloc())?;
     assert!(rt; are_settled(rt.alloc(), &first, &second)?);
+    Ok(())
+}
+
+/// The roles agree before the first bridge hears the agreement, and its Designated port is Discarding until then.
+#[test]
+fn settled_bridges_converge_by_an_agreement(rt: HostRuntime) -> Result<(), Fail> {
+    let mut first = with_one_port(rt.alloc(), 1)?;
+    let _ = first.tick()?;
+    let (second, _) = agreed(rt.alloc())?;
+    assert!(rt; are_settled(rt.alloc(), &first, &second)?);
+    assert!(rt; !have_converged(rt.alloc(), &first, &second)?);
+    let first = first_at_the_end(rt.alloc())?;
+    assert!(rt; have_converged(rt.alloc(), &first, &second)?);
     Ok(())
 }
 
@@ -140,20 +159,20 @@ fn a_link_with_an_end_down_is_settled(rt: HostRuntime) -> Result<(), Fail> {
 }
 
 #[test]
-fn an_end_that_is_enabled_alone_settles_once_what_it_heard_has_aged_out(
+fn an_end_that_is_enabled_alone_converges_once_what_it_heard_has_aged_out(
     rt: HostRuntime,
 ) -> Result<(), Fail> {
     let mut first = first_at_the_end(rt.alloc())?;
     let mut second = second_at_the_end(rt.alloc())?;
     let _ = first.admin(1, false)?;
     for _ in 0..5u8 {
-        assert!(rt; !are_settled(rt.alloc(), &first, &second)?);
+        assert!(rt; !have_converged(rt.alloc(), &first, &second)?);
         let _ = second.tick()?;
     }
-    assert!(rt; !are_settled(rt.alloc(), &first, &second)?);
+    assert!(rt; !have_converged(rt.alloc(), &first, &second)?);
     let _ = second.tick()?;
-    assert!(rt; are_settled(rt.alloc(), &first, &second)?);
-    assert!(rt; are_settled(rt.alloc(), &second, &first)?);
+    assert!(rt; have_converged(rt.alloc(), &first, &second)?);
+    assert!(rt; have_converged(rt.alloc(), &second, &first)?);
     Ok(())
 }
 

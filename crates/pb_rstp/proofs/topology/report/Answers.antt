@@ -8,7 +8,7 @@ use Rattle.pb_rstp.proofs.topology.report.Goals as goal
 pub loop-p-preserved : goal.loop-p-preserved
 loop-p-preserved c =
     change_more
-    (moved_on (telling c.has_any_opened-is_any_opened.result (option_to_list c.changed_at-changed.result)))
+    (moved_on (telling c.args.prompt c.has_any_opened-is_any_opened.result (option_to_list c.changed_at-changed.result)))
     c.args.ports.now c.loop-p.ports c.loop-p.p-index _ c.report_at.new.p (omega arith) (omega arith)
     c.loop-p.invariant c.report_at.ensures
 
@@ -17,7 +17,7 @@ returns c =
     let ports = c.args.ports.now in
     let opened = c.has_any_opened-is_any_opened in
     let changed = c.changed_at-changed in
-    change_all (moved_on (telling opened.result (option_to_list changed.result))) ports c.loop-p.ports
+    change_all (moved_on (telling c.args.prompt opened.result (option_to_list changed.result))) ports c.loop-p.ports
     c.loop-p.p-index (omega arith) c.loop-p.invariant
     ∙ ap (λ change. each change ports)
-    (telling_is c.args.heard ports opened.result (option_to_list changed.result) opened.ensures changed.ensures)
+    (telling_is c.args.prompt c.args.heard ports opened.result (option_to_list changed.result) opened.ensures changed.ensures)

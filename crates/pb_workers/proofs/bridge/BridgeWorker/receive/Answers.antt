@@ -1,12 +1,15 @@
-use Rattle.std.proofs.Common.{◌≡◌, ◌∙◌, ◌++◌, ◌∷◌, [], suc, ap, sym, subst, rules, true, refl, arith}
+use Rattle.std.proofs.Common.{◌≡◌, ◌∙◌, ◌++◌, ◌∷◌, ◌-◌, ℕ, [], suc, ap, sym, subst, rules, true, refl, arith}
+use Rattle.std.proofs.Common.{Some, if◌then◌else◌, slice_get}
 use Rattle.std.specs.List.{list_any}
-use Rattle.rtrb.specs.Ring.{received as received_over}
+use Rattle.rtrb.specs.Ring.{known_items, received as received_over}
 use Rattle.pb_lan.specs.Laws.{is_setting}
 use Rattle.pb_lan.specs.Queues.{capacity_of}
 use Rattle.pb_lan.specs.declared.step.Step.TheVariants.{Receive}
 use Rattle.pb_relay.specs.Standing.{BridgeView, with_step}
-use Rattle.pb_workers.specs.Lossless.{HasRoomBeside, refuses_when_full}
-use Rattle.pb_workers.proofs.ReceiveLemmas.{gave_none, none_later, took_one}
+use Rattle.pb_ring.specs.Rings.{shown_at}
+use Rattle.pb_relay.specs.Room.{has_room_for}
+use Rattle.pb_workers.specs.Lossless.{refuses_when_full}
+use Rattle.pb_workers.proofs.ReceiveLemmas.{first_known, gave_none, none_later, took_one}
 use Rattle.pb_workers.proofs.bridge.BridgeWorker.receive.Goals as goal
 
 pub invariant_of-self-2-clause-took : goal.invariant_of-self-2-clause-took
@@ -50,8 +53,19 @@ invariant_of-self-2-clause-capacity g c =
 pub invariant_of-self-2-clause-whole : goal.invariant_of-self-2-clause-whole
 invariant_of-self-2-clause-whole g c = λ waits.
     let same = c.in_default.ensures.ok in
+    let item = c.in-Some.item in
     let may : c.may_receive.result ≡ true = search rules in
+    let place : c.index_of-place.result ≡ c.args.port - 1 = omega (arith, c.index_of-place.ensures) in
+    let known = subst (λ (p : ℕ). slice_get (shown_at (λ i. known_items i.end) c.has_item.new.self.ends.items p) 0
+    ≡ Some item) place
+    (first_known _ item (search rules) (λ first is. c.in-Some.ensures.first first is)) in
+    let bridge = c.args.self.now.bridge in
+    let room : has_room_for bridge.plan bridge.number bridge.steps c.args.self.now.queue c.args.port item ≡ true =
+    ap (λ w. if w then has_room_for bridge.plan bridge.number bridge.steps c.args.self.now.queue c.args.port item
+    else true) (sym (c.args.self.now.patient waits)) ∙ sym (c.may_receive.ensures item known) ∙ may in
     c.take_in-outcome.ensures.whole
-    (subst (λ (b : BridgeView). HasRoomBeside b.plan b.number b.steps c.args.port) (sym same)
-    (c.may_receive.ensures waits may))
+    (subst (λ (b : BridgeView). has_room_for b.plan b.number b.steps (capacity_of b.plan b.number) c.args.port item
+    ≡ true) (sym same)
+    (subst (λ (q : ℕ). has_room_for bridge.plan bridge.number bridge.steps q c.args.port item ≡ true)
+    c.args.self.now.capacity room))
     (ap (λ (b : BridgeView). list_any refuses_when_full b.steps) same ∙ c.args.self.now.whole waits)
