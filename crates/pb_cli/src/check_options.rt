@@ -16,7 +16,7 @@ pub(crate) const CHECK: &str = "Validate a plan and report forwarding loops";
 /// The help of `--strict`.
 const STRICT: &str = "Exit with status 4 if there is a warning";
 
-/// The help of `--settle`.
+/// The help of `--settle`, which is `--converge` too.
 const SETTLE: &str = "Also report the forest after convergence; --ticks limits the wait";
 
 /// The help of `--all`.
@@ -35,7 +35,7 @@ pub(crate) const ARGUMENTS: &[Argument] = &[
         name: "settle",
         value: "",
         help: SETTLE,
-        takes: Takes::Nothing,
+        takes: Takes::NothingBy(&["converge"]),
         excludes: &["format"],
     },
     SETTLE_LIMIT,

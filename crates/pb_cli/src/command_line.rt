@@ -20,7 +20,7 @@ use clap::{ArgMatches, Command, Error};
 use std::alloc::{AllocError, Global};
 
 /// The version of the program.
-pub const VERSION: &str = "0.19.0";
+pub const VERSION: &str = "0.20.0";
 
 /// A parsed command line: the command with its options.
 #[derive(PartialEq, Eq, Debug, Drop)]

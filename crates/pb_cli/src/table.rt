@@ -9,6 +9,8 @@ use std::alloc::Global;
 pub(crate) enum Takes {
     /// No value: a flag.
     Nothing,
+    /// No value: a flag. It has these other long names too.
+    NothingBy(&'static [&'static str]),
     /// A text.
     Text,
     /// A text. This letter is the short name of the argument.
@@ -93,7 +95,7 @@ fn remaining<'a>(arg: Arg<'a>) -> Arg<'a> {
 /// Sets name, values and parser of an argument by the value that it takes.
 fn taking<'a>(arg: Arg<'a>, argument: Argument) -> Arg<'a> {
     match argument.takes {
-        Takes::Nothing => arg.long(argument.name).action(ArgAction::SetTrue),
+        Takes::Nothing | Takes::NothingBy(_) => arg.long(argument.name).action(ArgAction::SetTrue),
         Takes::Text => named(arg, argument),
         Takes::TextBy(letter) => named(arg, argument).short(letter),
         Takes::Texts => named(arg, argument).action(ArgAction::Append),
@@ -122,6 +124,14 @@ fn required_by(takes: Takes) -> &'static [&'static str] {
     }
 }
 
+/// Returns the other long names of an argument.
+fn aliases_of(takes: Takes) -> &'static [&'static str] {
+    match takes {
+        Takes::NothingBy(aliases) => aliases,
+        _ => &[],
+    }
+}
+
 /// Returns the parser's argument for a row of a table.
 ///
 /// # Errors
@@ -130,6 +140,7 @@ fn required_by(takes: Takes) -> &'static [&'static str] {
 fn arg_of<'a>(alloc: Global, argument: Argument) -> Result<Arg<'a>, Error> {
     let arg = taking(Arg::new(alloc, argument.name).help(argument.help), argument);
     let arg = arg.requires_all(required_by(argument.takes))?;
+    let arg = arg.visible_aliases(aliases_of(argument.takes))?;
     Ok(arg.conflicts_with_all(argument.excludes)?)
 }
 

@@ -1,3 +1,3 @@
 pub mod Checks
-pub mod Settled
+pub mod Converged
 pub mod Shows

@@ -6,9 +6,9 @@
 #![tactic(auto)]
 
 mod check;
-mod settled;
+mod converged;
 mod show;
 
 pub use check::run_check;
-pub use settled::run_settled_check;
+pub use converged::run_converged_check;
 pub use show::run_show;

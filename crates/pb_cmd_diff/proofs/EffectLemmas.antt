@@ -9,11 +9,12 @@ use Rattle.pb_lan.specs.declared.plan.Plan.{Plan}
 use Rattle.pb_lan.specs.declared.shape.Shape.{Shape}
 use Rattle.pb_names.specs.Names.{port_name}
 use Rattle.pb_names.specs.Numbers.{port_named}
-use Rattle.pb_converge.specs.declared.rest.Rest.{Rest}
+use Rattle.pb_converge.specs.declared.convergence.Convergence.{Convergence}
+use Rattle.pb_cmd_survive.specs.Failures.{is_out}
 use Rattle.pb_cmd_survive.specs.Groups.{ports_of, AreGroups}
 use Rattle.pb_cmd_survive.specs.Impacts.{IsImpact}
 use Rattle.pb_cmd_survive.specs.Reach.{CanReach}
-use Rattle.pb_cmd_survive.specs.Verdicts.{is_settled}
+use Rattle.pb_cmd_survive.specs.Verdicts.{is_converged}
 use Rattle.pb_cmd_survive.specs.Views.{IsView, AreViews}
 use Rattle.pb_cmd_survive.specs.declared.impact.Impact.{Impact}
 use Rattle.pb_cmd_survive.specs.declared.sites.Site.{Site}
@@ -23,7 +24,8 @@ use Rattle.pb_cmd_diff.specs.Compared.{service_in}
 use Rattle.pb_cmd_diff.specs.Effects.{change_of, effect_of, IsEffect}
 use Rattle.pb_cmd_diff.specs.Losses.{port_in, AreShared, HaveReached, DoReach, Loses, Gains}
 use Rattle.pb_cmd_diff.specs.Losses.{IsHarmed, IsHelped, Differ, AreHarmed, AreHelped}
-use Rattle.pb_cmd_diff.specs.Members.{site_in, member_by, members, is_parted, is_joined, are_parted, are_joined}
+use Rattle.pb_cmd_diff.specs.Members.{site_in, member_by, members, is_disconnected, is_joined}
+use Rattle.pb_cmd_diff.specs.Members.{are_disconnected, are_joined}
 use Rattle.pb_cmd_diff.specs.Verdicts.{harms, helps, is_worse, is_better}
 use Rattle.pb_cmd_diff.specs.declared.case.Case.{Case}
 use Rattle.pb_cmd_diff.specs.declared.effect.Effect.{Effect}
@@ -112,8 +114,8 @@ record ArePair (old new : Plan) (before after : Shape) (what : Case) (service : 
 -- the groups of a service's ports in both networks
 record AreBoth (old new : Plan) (before after : Shape) (what : Case) (service : ℕ) (olds news : List Site) : Type 0
   where
-    groups_old : AreGroups old before what.old service (vid_numbered old service) olds
-    groups_new : AreGroups new after what.new (service_in old new service)
+    groups_old : AreGroups old before (is_out old [] what.old) service (vid_numbered old service) olds
+    groups_new : AreGroups new after (is_out new [] what.new) (service_in old new service)
         (vid_numbered new (service_in old new service)) news
 
 -- the members of four ports are a pair
@@ -135,12 +137,12 @@ pair_by old new before after what service olds news b m n s t u v cs ct cu cv e 
     λ r. ms ∙ (b.groups_old.together s u cs cu).1 r ∙ sym nu,
   );
   is = (
-    λ h. subst (λ x. CanReach new after what.new vid x (port_in old new u.port)) e
-        (subst (λ x. CanReach new after what.new vid t.port x) f
+    λ h. subst (λ x. CanReach new after (is_out new [] what.new) vid x (port_in old new u.port)) e
+        (subst (λ x. CanReach new after (is_out new [] what.new) vid t.port x) f
         ((b.groups_new.together t v ct cv).0 (sym mt ∙ h ∙ nv))),
     λ r. mt ∙ (b.groups_new.together t v ct cv).1
-        (subst (λ x. CanReach new after what.new vid x v.port) (sym e)
-        (subst (λ x. CanReach new after what.new vid (port_in old new s.port) x) (sym f) r)) ∙ sym nv,
+        (subst (λ x. CanReach new after (is_out new [] what.new) vid x v.port) (sym e)
+        (subst (λ x. CanReach new after (is_out new [] what.new) vid (port_in old new s.port) x) (sym f) r)) ∙ sym nv,
   );
 }
   where
@@ -222,36 +224,36 @@ pair_placed old new before after what service olds news b p q h =
           i.named j.named i.was i.is j.was j.is)),
     )
 
--- ports are parted exactly if the service loses two
+-- ports are disconnected exactly if the service loses two
 loses_tells : (old new : Plan) (before after : Shape) (what : Case) (service : ℕ) (olds news : List Site)
     → AreBoth old new before after what service olds news
-    → (are_parted (members old new olds news) ≡ true) ↔ Loses old new before after what service
+    → (are_disconnected (members old new olds news) ≡ true) ↔ Loses old new before after what service
 loses_tells old new before after what service olds news b = (to, from)
   where
     ms : List Member
     ms = members old new olds news
 
-    to : are_parted ms ≡ true → Loses old new before after what service
+    to : are_disconnected ms ≡ true → Loses old new before after what service
     to h =
-        let two = pair_of is_parted ms h in
+        let two = pair_of is_disconnected ms h in
         let m = two.0 in
         let n = two.1 in
-        let parted = and-true (m.old == n.old) (m.new == n.new) two.4 in
+        let disconnected = and-true (m.old == n.old) (m.new == n.new) two.4 in
         let pair = pair_made old new before after what service olds news b m n two.2 two.3 in
         record {
           p = pair.0;
           q = pair.1;
           shared = pair.2.shared;
-          reached = pair.2.was.0 (passes_same m.old n.old parted.0);
-          lost = λ r. true-false (m.new == n.new) (same_passes m.new n.new (pair.2.is.1 r)) parted.1;
+          reached = pair.2.was.0 (passes_same m.old n.old disconnected.0);
+          lost = λ r. true-false (m.new == n.new) (same_passes m.new n.new (pair.2.is.1 r)) disconnected.1;
         }
 
-    from : Loses old new before after what service → are_parted ms ≡ true
+    from : Loses old new before after what service → are_disconnected ms ≡ true
     from l =
         let two = pair_placed old new before after what service olds news b l.p l.q l.shared in
         let m = two.0 in
         let n = two.1 in
-        pair_passes is_parted ms m n two.2 two.3
+        pair_passes is_disconnected ms m n two.2 two.3
         (and_not (m.old == n.old) (m.new == n.new) (same_passes m.old n.old (two.4.was.1 l.reached))
         (false-unless (m.new == n.new) (λ h. l.lost (two.4.is.0 (passes_same m.new n.new h)))))
 
@@ -315,8 +317,8 @@ either_tells {A} {B} a b f g = (to, from)
 
 -- the views of a service in both networks
 record AreSeen (old new : Plan) (before after : Shape) (what : Case) (service : ℕ) (was is : View) : Type 0 where
-  old_view : IsView old before what.old service was
-  new_view : IsView new after what.new (service_in old new service) is
+  old_view : IsView old before (is_out old [] what.old) service was
+  new_view : IsView new after (is_out new [] what.new) (service_in old new service) is
 
 both_of : (old new : Plan) (before after : Shape) (what : Case) (service : ℕ) (was is : View)
     → AreSeen old new before after what service was is
@@ -331,7 +333,7 @@ harms_tells : (old new : Plan) (before after : Shape) (what : Case) (service : �
     → AreSeen old new before after what service was is
     → (harms (change_of old new (was, is)) ≡ true) ↔ IsHarmed old new before after what service
 harms_tells old new before after what service was is v =
-    either_tells (are_parted (members old new was.sites is.sites)) (was.is_forest && not is.is_forest)
+    either_tells (are_disconnected (members old new was.sites is.sites)) (was.is_forest && not is.is_forest)
     (loses_tells old new before after what service was.sites is.sites
     (both_of old new before after what service was is v))
     (differ_tells was.is_forest is.is_forest v.old_view.forest v.new_view.forest)
@@ -367,7 +369,8 @@ some_tells : (old new : Plan) (before after : Shape) (what : Case) (test : Servi
     → ((service : ℕ) (was is : View) → AreSeen old new before after what service was is
     → (test (change_of old new (was, is)) ≡ true) ↔ P service)
     → (services : List ℕ) (olds news : List View)
-    → AreViews old before what.old services olds → AreViews new after what.new (map (service_in old new) services) news
+    → AreViews old before (is_out old [] what.old) services olds
+    → AreViews new after (is_out new [] what.new) (map (service_in old new) services) news
     → (list_any test (map (change_of old new) (zip olds news)) ≡ true) ↔ Any P services
 some_tells old new before after what test P each [] [] [] v w = (λ h. cc, λ a. absurd (omega (arith, a.2)))
 some_tells old new before after what test P each [] [] (y ∷ ys) v w = absurd w
@@ -379,11 +382,11 @@ some_tells old new before after what test P each (s ∷ ss) (x ∷ xs) (y ∷ ys
     (each s x y (record { old_view = v.0; new_view = w.0 }))
     (some_tells old new before after what test P each ss xs ys v.1 w.1)
 
--- the bridges rest in one network and not in the other
-rests_tell : (was is : Rest) → ((is_settled was && not (is_settled is)) ≡ true) ↔ Differ was is
-rests_tell was is = (
-  λ h. and-true (is_settled was) (is_settled is) h,
-  λ d. and_not (is_settled was) (is_settled is) d.0 d.1,
+-- the bridges converge in one network and not in the other
+convergence_tells : (was is : Convergence) → ((is_converged was && not (is_converged is)) ≡ true) ↔ Differ was is
+convergence_tells was is = (
+  λ h. and-true (is_converged was) (is_converged is) h,
+  λ d. and_not (is_converged was) (is_converged is) d.0 d.1,
 )
 
 -- two impacts, and the effect that compares them
@@ -399,16 +402,18 @@ effect_is old new services ticks events what before after effect b a e = record 
   after = after;
   is_after = a;
   compared = e;
-  worse = subst (λ x. (is_worse x ≡ true) ↔ AreHarmed old new services was is what before.rest after.rest) (sym e)
-      (either_tells (list_any harms changes) (is_settled before.rest && not (is_settled after.rest))
+  worse = subst (λ x. (is_worse x ≡ true) ↔ AreHarmed old new services was is what before.convergence after.convergence)
+      (sym e)
+      (either_tells (list_any harms changes) (is_converged before.convergence && not (is_converged after.convergence))
       (some_tells old new was is what harms (IsHarmed old new was is what) (harms_tells old new was is what)
       services before.views after.views b.views a.views)
-      (rests_tell before.rest after.rest));
-  better = subst (λ x. (is_better x ≡ true) ↔ AreHelped old new services was is what before.rest after.rest) (sym e)
-      (either_tells (list_any helps changes) (is_settled after.rest && not (is_settled before.rest))
+      (convergence_tells before.convergence after.convergence));
+  better = subst
+      (λ x. (is_better x ≡ true) ↔ AreHelped old new services was is what before.convergence after.convergence) (sym e)
+      (either_tells (list_any helps changes) (is_converged after.convergence && not (is_converged before.convergence))
       (some_tells old new was is what helps (IsHelped old new was is what) (helps_tells old new was is what)
       services before.views after.views b.views a.views)
-      (rests_tell after.rest before.rest));
+      (convergence_tells after.convergence before.convergence));
 }
   where
     was : Shape

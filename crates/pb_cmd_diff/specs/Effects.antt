@@ -28,8 +28,8 @@ change_of old new v = record {
 abbrev pub effect_of : Plan → Plan → Case → Impact → Impact → Effect
 effect_of old new what before after = record {
   what = what;
-  old = before.rest;
-  new = after.rest;
+  old = before.convergence;
+  new = after.convergence;
   services = map (change_of old new) (zip before.views after.views);
 }
 
@@ -50,8 +50,8 @@ pub record IsEffect (old new : Plan) (services : List ℕ) (ticks events : ℕ) 
   pub after : Impact
   pub is_after : IsImpact new [] (map (service_in old new) services) ticks events what.new after
   pub compared : effect ≡ effect_of old new what before after
-  pub worse : IsTrue (is_worse effect) ↔ AreHarmed old new services (last_shape old is_before.last.rec) (last_shape new is_after.last.rec) what before.rest after.rest
-  pub better : IsTrue (is_better effect) ↔ AreHelped old new services (last_shape old is_before.last.rec) (last_shape new is_after.last.rec) what before.rest after.rest
+  pub worse : IsTrue (is_worse effect) ↔ AreHarmed old new services (last_shape old is_before.last.rec) (last_shape new is_after.last.rec) what before.convergence after.convergence
+  pub better : IsTrue (is_better effect) ↔ AreHelped old new services (last_shape old is_before.last.rec) (last_shape new is_after.last.rec) what before.convergence after.convergence
 
 -- the effect of a failure on two networks that are up
 abbrev pub IsEffectOn : Sides → Case → Effect → Type 0

@@ -17,7 +17,7 @@ use Rattle.pb_rstp.specs.Ports.{Machine, port_of}
 use Rattle.pb_rstp.specs.Profile.{machine_of}
 use Rattle.pb_rstp.specs.declared.port.Port.{Port}
 use Rattle.pb_converge.specs.Enough.{HasEnoughMemory}
-use Rattle.pb_converge.specs.declared.rest.Rest.{Rest}
+use Rattle.pb_converge.specs.declared.convergence.Convergence.{Convergence}
 use Rattle.pb_cmd_survive.specs.Impacts.{IsCalm}
 use Rattle.pb_cmd_diff.specs.declared.ends.EndView.{EndView}
 use Rattle.pb_cmd_diff.specs.declared.ends.EndView.TheVariants.{Given, Computed}
@@ -55,9 +55,9 @@ ends_by Rstp plan rec = map (protocol_link plan rec) plan.links
 -- the ends of each link of the plan, at the end of a lawful record of its network, which converged and in which no
 -- allocation failed
 pub record AreEnds (plan : Plan) (ticks events : ℕ) (ends : List LinkEnds) : Type 0 where
-  pub rest : Rest
+  pub convergence : Convergence
   pub last : NetView
-  pub calm : IsCalm plan [] ticks events rest last
+  pub calm : IsCalm plan [] ticks events convergence last
   pub planned : last.plan ≡ plan
   pub lawful : IsLawfulRecord spanning_tree plan last.rec
   pub enough : HasEnoughMemory last.rec

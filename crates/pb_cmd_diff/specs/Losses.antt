@@ -1,5 +1,5 @@
 -- What a service loses or gains by the change from OLD to NEW: customer ports that reach each other, and forwarding loops.
-use Rattle.std.specs.Prelude.{◌≡◌, ◌⊎◌, ℕ, List, true, false, Contains}
+use Rattle.std.specs.Prelude.{◌≡◌, ◌⊎◌, ℕ, List, [], true, false, Contains}
 use Rattle.std.specs.List.{Any}
 use Rattle.pb_forest.specs.ServiceVids.{vid_numbered}
 use Rattle.pb_lan.specs.Forests.{IsForest}
@@ -7,10 +7,11 @@ use Rattle.pb_lan.specs.declared.plan.Plan.{Plan}
 use Rattle.pb_lan.specs.declared.shape.Shape.{Shape}
 use Rattle.pb_names.specs.Names.{port_name}
 use Rattle.pb_names.specs.Numbers.{port_named}
-use Rattle.pb_converge.specs.declared.rest.Rest.{Rest}
+use Rattle.pb_converge.specs.declared.convergence.Convergence.{Convergence}
+use Rattle.pb_cmd_survive.specs.Failures.{is_out}
 use Rattle.pb_cmd_survive.specs.Groups.{ports_of}
 use Rattle.pb_cmd_survive.specs.Reach.{CanReach}
-use Rattle.pb_cmd_survive.specs.Verdicts.{is_settled}
+use Rattle.pb_cmd_survive.specs.Verdicts.{is_converged}
 use Rattle.pb_cmd_diff.specs.Compared.{service_in}
 use Rattle.pb_cmd_diff.specs.declared.case.Case.{Case}
 
@@ -27,12 +28,13 @@ pub record AreShared (old new : Plan) (service p q : ℕ) : Type 0 where
 
 -- two ports of a service of OLD reach each other in the shape of OLD, under a failure
 abbrev pub HaveReached : Plan → Shape → Case → ℕ → ℕ → ℕ → Type 0
-HaveReached old before what service p q = CanReach old before what.old (vid_numbered old service) p q
+HaveReached old before what service p q = CanReach old before (is_out old [] what.old) (vid_numbered old service) p q
 
 -- the ports of their names reach each other in the shape of NEW, under the same failure
 abbrev pub DoReach : Plan → Plan → Shape → Case → ℕ → ℕ → ℕ → Type 0
 DoReach old new after what service p q =
-    CanReach new after what.new (vid_numbered new (service_in old new service)) (port_in old new p) (port_in old new q)
+    CanReach new after (is_out new [] what.new) (vid_numbered new (service_in old new service)) (port_in old new p)
+    (port_in old new q)
 
 -- the service has two ports that reach each other in OLD, and not in NEW
 pub record Loses (old new : Plan) (before after : Shape) (what : Case) (service : ℕ) : Type 0 where
@@ -73,14 +75,14 @@ IsHarmed old new before after what service = Loses old new before after what ser
 abbrev pub IsHelped : Plan → Plan → Shape → Shape → Case → ℕ → Type 0
 IsHelped old new before after what service = Gains old new before after what service ⊎ EndsLoop old new before after service
 
--- the bridges come to rest in one of the networks, and not in the other
-abbrev pub Differ : Rest → Rest → Type 0
-Differ one other = (is_settled one ≡ true) × (is_settled other ≡ false)
+-- the bridges converge in one of the networks, and not in the other
+abbrev pub Differ : Convergence → Convergence → Type 0
+Differ one other = (is_converged one ≡ true) × (is_converged other ≡ false)
 
 -- one of the services is worse in NEW, or the bridges no longer converge
-abbrev pub AreHarmed : Plan → Plan → List ℕ → Shape → Shape → Case → Rest → Rest → Type 0
+abbrev pub AreHarmed : Plan → Plan → List ℕ → Shape → Shape → Case → Convergence → Convergence → Type 0
 AreHarmed old new services before after what was is = Any (IsHarmed old new before after what) services ⊎ Differ was is
 
 -- one of the services is better in NEW, or the bridges now converge
-abbrev pub AreHelped : Plan → Plan → List ℕ → Shape → Shape → Case → Rest → Rest → Type 0
+abbrev pub AreHelped : Plan → Plan → List ℕ → Shape → Shape → Case → Convergence → Convergence → Type 0
 AreHelped old new services before after what was is = Any (IsHelped old new before after what) services ⊎ Differ is was

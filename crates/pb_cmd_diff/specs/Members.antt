@@ -26,16 +26,16 @@ abbrev pub swapped : Member → Member
 swapped m = record { port = m.port; old = m.new; new = m.old }
 
 -- two ports reach each other in OLD, and not in NEW
-abbrev pub is_parted : Member → Member → Bool
-is_parted m n = m.old == n.old && not (m.new == n.new)
+abbrev pub is_disconnected : Member → Member → Bool
+is_disconnected m n = m.old == n.old && not (m.new == n.new)
 
--- some port is parted from this one
+-- some port is disconnected from this one
 abbrev pub is_torn : List Member → Member → Bool
-is_torn ms m = list_any (is_parted m) ms
+is_torn ms m = list_any (is_disconnected m) ms
 
--- some two ports are parted
-abbrev pub are_parted : List Member → Bool
-are_parted ms = list_any (is_torn ms) ms
+-- some two ports are disconnected
+abbrev pub are_disconnected : List Member → Bool
+are_disconnected ms = list_any (is_torn ms) ms
 
 -- two ports reach each other in NEW, and not in OLD
 abbrev pub is_joined : Member → Member → Bool

@@ -8,9 +8,9 @@ use Rattle.pb_lan.specs.Numbering.{numbered, numbers_from}
 use Rattle.pb_lan.specs.declared.plan.Plan.{Plan}
 use Rattle.pb_names.specs.Names.{link_name, port_name, service_name, role_word, state_word}
 use Rattle.pb_plan_diff.specs.Differences.{plan_lines}
-use Rattle.pb_converge.specs.declared.rest.Rest.{Rest}
+use Rattle.pb_converge.specs.declared.convergence.Convergence.{Convergence}
 use Rattle.pb_cmd_survive.specs.Reports.{failure_text, has_converged, ticks_of}
-use Rattle.pb_cmd_survive.specs.Verdicts.{is_settled}
+use Rattle.pb_cmd_survive.specs.Verdicts.{is_converged}
 use Rattle.pb_cmd_survive.specs.declared.failure.Failure.{Failure}
 use Rattle.pb_cmd_survive.specs.declared.failure.Failure.TheVariants.{Nothing, Link, Pair, Bridge}
 use Rattle.pb_cmd_diff.specs.Cases.{link_in}
@@ -63,13 +63,13 @@ next_text old ms m n = if is_next ms m n then codes " |" ++ mates_text old ms n 
 abbrev pub apart_line : List ℕ → Plan → List Member → Member → List ℕ
 apart_line head old ms m = head ++ mates_text old ms m ++ flat_map (next_text old ms m) ms ++ 10 ∷ []
 
--- the line of a group of OLD that is parted, for its first port
-abbrev pub parted_line : List ℕ → Plan → List Member → Member → List ℕ
-parted_line head old ms m = if leads (is_together m) ms m && is_torn ms m then apart_line head old ms m else []
+-- the line of a group of OLD that is disconnected, for its first port
+abbrev pub disconnected_line : List ℕ → Plan → List Member → Member → List ℕ
+disconnected_line head old ms m = if leads (is_together m) ms m && is_torn ms m then apart_line head old ms m else []
 
 -- the lines of all such groups
-abbrev pub parted_lines : List ℕ → Plan → List Member → List ℕ
-parted_lines head old ms = flat_map (parted_line head old ms) ms
+abbrev pub disconnected_lines : List ℕ → Plan → List Member → List ℕ
+disconnected_lines head old ms = flat_map (disconnected_line head old ms) ms
 
 -- the service, and what is down
 abbrev pub service_head : Plan → Plan → Case → ℕ → List ℕ
@@ -89,8 +89,8 @@ loop_line head was_forest is_forest =
 -- the lines of a service, after what it is and what is down
 abbrev pub change_lines : List ℕ → Plan → ServiceChange → List ℕ
 change_lines head old s =
-    parted_lines (head ++ codes "no longer reach each other:") old s.members
-    ++ parted_lines (head ++ codes "now reach each other:") old (map swapped s.members)
+    disconnected_lines (head ++ codes "no longer reach each other:") old s.members
+    ++ disconnected_lines (head ++ codes "now reach each other:") old (map swapped s.members)
     ++ loop_line head s.was_forest s.is_forest
 
 -- the lines of the service with this number among those compared, under a failure
@@ -129,16 +129,16 @@ abbrev pub ends_line : Plan → Plan → List LinkEnds → List LinkEnds → ℕ
 ends_line old new olds news number = ends_by old number (numbered olds number) (numbered news (link_in old new number))
 
 -- whether the bridges converge, if that has changed
-abbrev pub rest_words : Bool → Bool → List ℕ
-rest_words true true = []
-rest_words false false = []
-rest_words true false = codes ": bridges no longer converge" ++ 10 ∷ []
-rest_words false true = codes ": bridges now converge" ++ 10 ∷ []
+abbrev pub convergence_words : Bool → Bool → List ℕ
+convergence_words true true = []
+convergence_words false false = []
+convergence_words true false = codes ": bridges no longer converge" ++ 10 ∷ []
+convergence_words false true = codes ": bridges now converge" ++ 10 ∷ []
 
-abbrev pub rest_line : Plan → Plan → Effect → List ℕ
-rest_line old new o =
-    if length (rest_words (is_settled o.old) (is_settled o.new)) == 0 then []
-    else case_text old new o.what ++ rest_words (is_settled o.old) (is_settled o.new)
+abbrev pub convergence_line : Plan → Plan → Effect → List ℕ
+convergence_line old new o =
+    if length (convergence_words (is_converged o.old) (is_converged o.new)) == 0 then []
+    else case_text old new o.what ++ convergence_words (is_converged o.old) (is_converged o.new)
 
 -- how driving each plan's network ended, under what fails in it
 abbrev pub is_nothing : Failure → Bool
@@ -147,22 +147,22 @@ is_nothing (Link number) = false
 is_nothing (Pair first second) = false
 is_nothing (Bridge number) = false
 
-abbrev pub old_rest : Effect → List Rest
-old_rest o = if is_nothing o.what.old then [] else o.old ∷ []
+abbrev pub old_convergence : Effect → List Convergence
+old_convergence o = if is_nothing o.what.old then [] else o.old ∷ []
 
-abbrev pub new_rest : Effect → List Rest
-new_rest o = if is_nothing o.what.new then [] else o.new ∷ []
+abbrev pub new_convergence : Effect → List Convergence
+new_convergence o = if is_nothing o.what.new then [] else o.new ∷ []
 
 -- the most ticks until bridges converged
-abbrev pub most_ticks : List Rest → ℕ
+abbrev pub most_ticks : List Convergence → ℕ
 most_ticks [] = 0
-most_ticks (rest ∷ rests) = max (ticks_of rest) (most_ticks rests)
+most_ticks (convergence ∷ convergences) = max (ticks_of convergence) (most_ticks convergences)
 
-abbrev pub ticks_words : List Rest → List ℕ
-ticks_words rests = if list_any has_converged rests then decimal (most_ticks rests) else codes "none"
+abbrev pub ticks_words : List Convergence → List ℕ
+ticks_words convergences = if list_any has_converged convergences then decimal (most_ticks convergences) else codes "none"
 
 -- the line of these, if they differ
-abbrev pub ticks_line : List Rest → List Rest → List ℕ
+abbrev pub ticks_line : List Convergence → List Convergence → List ℕ
 ticks_line olds news =
     if same (ticks_words olds) (ticks_words news) then []
     else codes "most ticks to convergence: " ++ ticks_words olds ++ codes " -> " ++ ticks_words news ++ 10 ∷ []
@@ -173,8 +173,8 @@ body_text old new base effects olds news =
     plan_lines old new
     ++ flat_map (service_lines old new base effects) (numbers_from 1 base.services)
     ++ flat_map (ends_line old new olds news) (numbers_from 1 old.links)
-    ++ rest_line old new base ++ flat_map (rest_line old new) effects
-    ++ ticks_line (flat_map old_rest effects) (flat_map new_rest effects)
+    ++ convergence_line old new base ++ flat_map (convergence_line old new) effects
+    ++ ticks_line (flat_map old_convergence effects) (flat_map new_convergence effects)
 
 -- how the network has changed, if something got better or worse
 abbrev pub verdict_word : Bool → Bool → List ℕ

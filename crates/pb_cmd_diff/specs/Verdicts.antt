@@ -1,8 +1,8 @@
 -- What got better, and what got worse.
 use Rattle.std.specs.Prelude.{Bool, List, ◌&&◌, ◌||◌, not}
 use Rattle.std.specs.List.{list_any}
-use Rattle.pb_cmd_survive.specs.Verdicts.{is_settled}
-use Rattle.pb_cmd_diff.specs.Members.{are_parted, are_joined}
+use Rattle.pb_cmd_survive.specs.Verdicts.{is_converged}
+use Rattle.pb_cmd_diff.specs.Members.{are_disconnected, are_joined}
 use Rattle.pb_cmd_diff.specs.declared.effect.Effect.{Effect}
 use Rattle.pb_cmd_diff.specs.declared.effect.ServiceChange.{ServiceChange}
 
@@ -16,7 +16,7 @@ ends_loop s = s.is_forest && not s.was_forest
 
 -- two ports of the service no longer reach each other, or it now forms a loop
 abbrev pub harms : ServiceChange → Bool
-harms s = are_parted s.members || forms_loop s
+harms s = are_disconnected s.members || forms_loop s
 
 -- two ports of the service now reach each other, or it no longer forms a loop
 abbrev pub helps : ServiceChange → Bool
@@ -24,11 +24,11 @@ helps s = are_joined s.members || ends_loop s
 
 -- the bridges converge in OLD, and not in NEW
 abbrev pub stops_converging : Effect → Bool
-stops_converging o = is_settled o.old && not (is_settled o.new)
+stops_converging o = is_converged o.old && not (is_converged o.new)
 
 -- the bridges converge in NEW, and not in OLD
 abbrev pub starts_converging : Effect → Bool
-starts_converging o = is_settled o.new && not (is_settled o.old)
+starts_converging o = is_converged o.new && not (is_converged o.old)
 
 -- some service got worse, or the bridges no longer converge
 abbrev pub is_worse : Effect → Bool

@@ -8,7 +8,7 @@ ghost use Rattle.pb_cmd_diff.specs.Effects.{change_of, effect_of, AreSides, IsEf
 use crate::case::Case;
 use crate::member::{Member, members};
 use pb_cmd_survive::{FailureProgress, Impact, Standing, View, look_at, look_each};
-use pb_converge::{DriveFault, Rest};
+use pb_converge::{Convergence, DriveFault};
 use pb_frame::{Memory, Seq};
 use pb_lan::Plan;
 use std::alloc::Global;
@@ -33,9 +33,9 @@ pub struct Effect {
     /// The failure.
     pub what: Case,
     /// Whether the bridges of OLD converged after it, and after how many ticks of each.
-    pub old: Rest,
+    pub old: Convergence,
     /// Whether those of NEW converged.
-    pub new: Rest,
+    pub new: Convergence,
     /// The services to compare.
     pub services: Seq<ServiceChange>,
 }
@@ -112,8 +112,8 @@ fn effect_of(
     )?;
     Ok(Effect {
         what,
-        old: before.rest,
-        new: after.rest,
+        old: before.convergence,
+        new: after.convergence,
         services: Seq::from_vec(changes),
     })
 }

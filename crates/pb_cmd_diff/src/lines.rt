@@ -5,7 +5,8 @@ ghost use Rattle.pb_lan.specs.Plans.{IsSound};
 ghost use Rattle.pb_lan.specs.Numbering.{numbered, numbers_from};
 ghost use Rattle.pb_frame.specs.Lists.{first};
 ghost use Rattle.pb_cmd_diff.specs.Reports.{case_text, is_together, is_still, leads, mate_text, mates_text, is_next};
-ghost use Rattle.pb_cmd_diff.specs.Reports.{next_text, apart_line, parted_line, parted_lines, service_head, loop_words};
+ghost use Rattle.pb_cmd_diff.specs.Reports.{next_text, apart_line, disconnected_line, disconnected_lines};
+ghost use Rattle.pb_cmd_diff.specs.Reports.{service_head, loop_words};
 ghost use Rattle.pb_cmd_diff.specs.Reports.{loop_line};
 ghost use Rattle.pb_cmd_diff.specs.Reports.{change_lines, change_at, service_lines, end_words, ends_words};
 ghost use Rattle.pb_cmd_diff.specs.Reports.{ends_change, ends_line};
@@ -120,8 +121,8 @@ fn put_apart(
     Ok(())
 }
 
-/// Appends the line of a group of OLD, if this port is its first one and the group is parted.
-fn put_parted(
+/// Appends the line of a group of OLD, if this port is its first one and the group is disconnected.
+fn put_disconnected(
     out: &mut String,
     head: &str,
     old: &Plan,
@@ -129,7 +130,7 @@ fn put_parted(
     one: Member,
 ) -> Result<(), Memory>
     ensures { OnOk result (string_bytes out.new ≡ string_bytes out.old
-        ++ parted_line head.now old.now members.now one) }
+        ++ disconnected_line head.now old.now members.now one) }
 {
     let (first, torn) = (leads_group(members, one), is_torn(members, one));
     if first && torn {
@@ -138,18 +139,18 @@ fn put_parted(
     Ok(())
 }
 
-/// Appends the lines of all groups of OLD that are parted.
-fn put_all_parted(
+/// Appends the lines of all groups of OLD that are disconnected.
+fn put_all_disconnected(
     out: &mut String,
     head: &str,
     old: &Plan,
     members: &[Member],
 ) -> Result<(), Memory>
     ensures { OnOk result (string_bytes out.new ≡ string_bytes out.old
-        ++ parted_lines head.now old.now members.now) }
+        ++ disconnected_lines head.now old.now members.now) }
 {
     for one in members {
-        put_parted(out, head, old, members, *one)?;
+        put_disconnected(out, head, old, members, *one)?;
     }
     Ok(())
 }
@@ -196,8 +197,8 @@ fn put_loop(out: &mut String, head: &str, was_forest: bool, is_forest: bool) -> 
     Ok(())
 }
 
-/// Appends the lines of groups that are parted, after `head` and how.
-fn put_parted_with(
+/// Appends the lines of groups that are disconnected, after `head` and how.
+fn put_disconnected_with(
     alloc: Global,
     out: &mut String,
     head: &str,
@@ -206,10 +207,10 @@ fn put_parted_with(
     members: &[Member],
 ) -> Result<(), Memory>
     ensures { OnOk result (string_bytes out.new ≡ string_bytes out.old
-        ++ parted_lines (head.now ++ how.now) old.now members.now) }
+        ++ disconnected_lines (head.now ++ how.now) old.now members.now) }
 {
     let whole = format!(in alloc; "{head}{how}")?;
-    put_all_parted(out, whole.as_str(), old, members)
+    put_all_disconnected(out, whole.as_str(), old, members)
 }
 
 /// Appends the lines of a service, after its name and what is down.
@@ -225,7 +226,7 @@ fn put_change(
 {
     let members = change.members.as_slice();
     let joined = swapped(alloc, members)?;
-    put_parted_with(
+    put_disconnected_with(
         alloc,
         out,
         head,
@@ -233,7 +234,7 @@ fn put_change(
         old,
         members,
     )?;
-    put_parted_with(
+    put_disconnected_with(
         alloc,
         out,
         head,

@@ -3,7 +3,8 @@
 ghost use Rattle.std.specs.Option.{option_copied};
 ghost use Rattle.std.specs.Prelude.{◌≡◌, ◌++◌, map, IfOk, OnOk};
 ghost use Rattle.pb_lan.specs.Plans.{IsSound};
-ghost use Rattle.pb_cmd_diff.specs.Members.{site_in, member_by, members, swapped, is_parted, is_torn, are_parted};
+ghost use Rattle.pb_cmd_diff.specs.Members.{site_in, member_by, members, swapped, is_disconnected, is_torn};
+ghost use Rattle.pb_cmd_diff.specs.Members.{are_disconnected};
 ghost use Rattle.pb_cmd_diff.specs.Members.{is_joined, is_bound, are_joined};
 
 use pb_cmd_survive::Site;
@@ -93,22 +94,22 @@ pub(crate) fn swapped(alloc: Global, members: &[Member]) -> Result<Vec<Member>, 
 }
 
 /// Checks whether two ports reach each other in OLD, and not in NEW.
-fn is_parted(one: Member, other: Member) -> bool
-    ensures { result ≡ is_parted one other }
+fn is_disconnected(one: Member, other: Member) -> bool
+    ensures { result ≡ is_disconnected one other }
 {
     one.old == other.old && one.new != other.new
 }
 
-/// Checks whether some port is parted from this one.
+/// Checks whether some port is disconnected from this one.
 pub(crate) fn is_torn(members: &[Member], one: Member) -> bool
     ensures { result ≡ is_torn members.now one }
 {
-    members.iter().any(|other| is_parted(one, *other))
+    members.iter().any(|other| is_disconnected(one, *other))
 }
 
-/// Checks whether some two ports are parted.
-pub(crate) fn are_parted(members: &[Member]) -> bool
-    ensures { result ≡ are_parted members.now }
+/// Checks whether some two ports are disconnected.
+pub(crate) fn are_disconnected(members: &[Member]) -> bool
+    ensures { result ≡ are_disconnected members.now }
 {
     members.iter().any(|one| is_torn(members, *one))
 }

@@ -3,13 +3,13 @@
 ghost use Rattle.std.specs.Prelude.{◌≡◌, ◌++◌, flat_map, string_bytes, OnOk};
 ghost use Rattle.pb_lan.specs.Numbering.{numbers_from};
 ghost use Rattle.pb_lan.specs.Plans.{IsSound};
-ghost use Rattle.pb_cmd_diff.specs.Reports.{service_lines, ends_line, rest_line, body_text, ending, diff_text};
+ghost use Rattle.pb_cmd_diff.specs.Reports.{service_lines, ends_line, convergence_line, body_text, ending, diff_text};
 ghost use Rattle.pb_cmd_diff.specs.Reports.{summary_line, failure_line, failure_lines};
 
 use crate::effect::Effect;
 use crate::ends::LinkEnds;
 use crate::lines::{put_link, put_service};
-use crate::totals::{put_failure_line, put_rest, put_summary, put_ticks};
+use crate::totals::{put_convergence, put_failure_line, put_summary, put_ticks};
 use pb_frame::Memory;
 use pb_lan::Plan;
 use pb_plan_diff::put_plan_diff;
@@ -54,7 +54,7 @@ fn put_links(
 }
 
 /// Appends the lines of failures under which the bridges of one plan alone converge.
-fn put_rests(
+fn put_convergences(
     out: &mut String,
     old: &Plan,
     new: &Plan,
@@ -62,11 +62,11 @@ fn put_rests(
     effects: &[Effect],
 ) -> Result<(), Memory>
     ensures { OnOk result (string_bytes out.new ≡ string_bytes out.old
-        ++ (rest_line old.now new.now base.now ++ flat_map (rest_line old.now new.now) effects.now)) }
+        ++ (convergence_line old.now new.now base.now ++ flat_map (convergence_line old.now new.now) effects.now)) }
 {
-    put_rest(out, old, new, base)?;
+    put_convergence(out, old, new, base)?;
     for effect in effects {
-        put_rest(out, old, new, effect)?;
+        put_convergence(out, old, new, effect)?;
     }
     Ok(())
 }
@@ -90,7 +90,7 @@ fn put_body(
     put_plan_diff(alloc, out, old, new)?;
     put_services(alloc, out, old, new, base, effects)?;
     put_links(alloc, out, old, new, olds, news)?;
-    put_rests(out, old, new, base, effects)?;
+    put_convergences(out, old, new, base, effects)?;
     put_ticks(alloc, out, effects)?;
     Ok(())
 }

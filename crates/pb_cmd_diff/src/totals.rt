@@ -3,7 +3,8 @@
 ghost use Rattle.std.specs.Prelude.{◌≡◌, ◌++◌, flat_map, count_by, string_bytes, OnOk, IfOk};
 ghost use Rattle.std.specs.List.{list_any};
 ghost use Rattle.pb_cmd_survive.specs.Reports.{has_converged};
-ghost use Rattle.pb_cmd_diff.specs.Reports.{rest_words, rest_line, is_nothing, old_rest, new_rest, most_ticks};
+ghost use Rattle.pb_cmd_diff.specs.Reports.{convergence_words, convergence_line, is_nothing, most_ticks};
+ghost use Rattle.pb_cmd_diff.specs.Reports.{old_convergence, new_convergence};
 ghost use Rattle.pb_cmd_diff.specs.Reports.{ticks_words, ticks_line, verdict_word, count_words, counts_words};
 ghost use Rattle.pb_cmd_diff.specs.Reports.{summary_line, failure_line};
 ghost use Rattle.pb_cmd_diff.specs.Verdicts.{is_better, is_worse};
@@ -11,15 +12,15 @@ ghost use Rattle.pb_cmd_diff.specs.Verdicts.{is_better, is_worse};
 use crate::effect::Effect;
 use crate::lines::put_case;
 use crate::verdict::{is_better, is_worse};
-use pb_cmd_survive::{Failure, has_converged, is_settled, ticks_of};
-use pb_converge::Rest;
+use pb_cmd_survive::{Failure, has_converged, is_converged, ticks_of};
+use pb_converge::Convergence;
 use pb_frame::Memory;
 use pb_lan::Plan;
 use std::alloc::Global;
 
 /// Returns whether bridges converge, if that has changed.
-fn rest_words(was: bool, is: bool) -> &'static str
-    ensures { result.now ≡ rest_words was is }
+fn convergence_words(was: bool, is: bool) -> &'static str
+    ensures { result.now ≡ convergence_words was is }
 {
     match (was, is) {
         (true, true) | (false, false) => "",
@@ -29,15 +30,15 @@ fn rest_words(was: bool, is: bool) -> &'static str
 }
 
 /// Appends a line if the bridges of one plan alone converge under a failure.
-pub(crate) fn put_rest(
+pub(crate) fn put_convergence(
     out: &mut String,
     old: &Plan,
     new: &Plan,
     effect: &Effect,
 ) -> Result<(), Memory>
-    ensures { OnOk result (string_bytes out.new ≡ string_bytes out.old ++ rest_line old.now new.now effect.now) }
+    ensures { OnOk result (string_bytes out.new ≡ string_bytes out.old ++ convergence_line old.now new.now effect.now) }
 {
-    let words = rest_words(is_settled(effect.old), is_settled(effect.new));
+    let words = convergence_words(is_converged(effect.old), is_converged(effect.new));
     if words.is_empty() {
         return Ok(());
     }
@@ -57,62 +58,69 @@ fn is_nothing(failure: Failure) -> bool
 }
 
 /// Returns how the bridges of OLD converged after its failures.
-fn old_rests(alloc: Global, effects: &[Effect]) -> Result<Vec<Rest>, Memory>
-    ensures { IfOk result (λ rests. rests.items ≡ flat_map old_rest effects.now) }
+fn old_convergences(alloc: Global, effects: &[Effect]) -> Result<Vec<Convergence>, Memory>
+    ensures { IfOk result (λ convergences. convergences.items ≡ flat_map old_convergence effects.now) }
 {
-    let mut rests = Vec::new(alloc);
+    let mut convergences = Vec::new(alloc);
     for effect in effects {
         if !is_nothing(effect.what.old) {
-            rests.push(effect.old)?;
+            convergences.push(effect.old)?;
         }
     }
-    Ok(rests)
+    Ok(convergences)
 }
 
 /// Returns how the bridges of NEW converged after its failures.
-fn new_rests(alloc: Global, effects: &[Effect]) -> Result<Vec<Rest>, Memory>
-    ensures { IfOk result (λ rests. rests.items ≡ flat_map new_rest effects.now) }
+fn new_convergences(alloc: Global, effects: &[Effect]) -> Result<Vec<Convergence>, Memory>
+    ensures { IfOk result (λ convergences. convergences.items ≡ flat_map new_convergence effects.now) }
 {
-    let mut rests = Vec::new(alloc);
+    let mut convergences = Vec::new(alloc);
     for effect in effects {
         if !is_nothing(effect.what.new) {
-            rests.push(effect.new)?;
+            convergences.push(effect.new)?;
         }
     }
-    Ok(rests)
+    Ok(convergences)
 }
 
 /// Returns the most ticks of each bridge until they converged.
-fn most_ticks(rests: &[Rest]) -> u32
-    ensures { result ≡ most_ticks rests.now }
+fn most_ticks(convergences: &[Convergence]) -> u32
+    ensures { result ≡ most_ticks convergences.now }
 {
     let mut most = 0;
-    for rest in rests {
-        most = most.max(ticks_of(*rest));
+    for convergence in convergences {
+        most = most.max(ticks_of(*convergence));
     }
     most
 }
 
 /// Checks whether the bridges ticked and converged after some failure.
-fn any_converged(rests: &[Rest]) -> bool
-    ensures { result ≡ list_any has_converged rests.now }
+fn any_converged(convergences: &[Convergence]) -> bool
+    ensures { result ≡ list_any has_converged convergences.now }
 {
-    rests.iter().any(|rest| has_converged(*rest))
+    convergences
+        .iter()
+        .any(|convergence| has_converged(*convergence))
 }
 
 /// Returns the most ticks until bridges converged, or `none`.
-fn ticks_words(alloc: Global, rests: &[Rest]) -> Result<String, Memory>
-    ensures { IfOk result (λ words. string_bytes words ≡ ticks_words rests.now) }
+fn ticks_words(alloc: Global, convergences: &[Convergence]) -> Result<String, Memory>
+    ensures { IfOk result (λ words. string_bytes words ≡ ticks_words convergences.now) }
 {
-    if any_converged(rests) {
-        let most = most_ticks(rests);
+    if any_converged(convergences) {
+        let most = most_ticks(convergences);
         return Ok(format!(in alloc; "{most}")?);
     }
     Ok(String::from_str(alloc, "none")?)
 }
 
 /// Appends the most ticks until bridges converged, if they differ.
-fn put_ticks_of(alloc: Global, out: &mut String, olds: &[Rest], news: &[Rest]) -> Result<(), Memory>
+fn put_ticks_of(
+    alloc: Global,
+    out: &mut String,
+    olds: &[Convergence],
+    news: &[Convergence],
+) -> Result<(), Memory>
     ensures { OnOk result (string_bytes out.new ≡ string_bytes out.old ++ ticks_line olds.now news.now) }
 {
     let (before, after) = (ticks_words(alloc, olds)?, ticks_words(alloc, news)?);
@@ -126,9 +134,12 @@ fn put_ticks_of(alloc: Global, out: &mut String, olds: &[Rest], news: &[Rest]) -
 /// Appends the most ticks until bridges converged after a failure, if they differ.
 pub(crate) fn put_ticks(alloc: Global, out: &mut String, effects: &[Effect]) -> Result<(), Memory>
     ensures { OnOk result (string_bytes out.new ≡ string_bytes out.old
-        ++ ticks_line (flat_map old_rest effects.now) (flat_map new_rest effects.now)) }
+        ++ ticks_line (flat_map old_convergence effects.now) (flat_map new_convergence effects.now)) }
 {
-    let (olds, news) = (old_rests(alloc, effects)?, new_rests(alloc, effects)?);
+    let (olds, news) = (
+        old_convergences(alloc, effects)?,
+        new_convergences(alloc, effects)?,
+    );
     put_ticks_of(alloc, out, olds.as_slice(), news.as_slice())
 }
 

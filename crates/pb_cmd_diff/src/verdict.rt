@@ -6,8 +6,8 @@ ghost use Rattle.pb_cmd_diff.specs.Verdicts.{forms_loop, ends_loop, harms, helps
 ghost use Rattle.pb_cmd_diff.specs.Verdicts.{is_worse, is_better, worsens};
 
 use crate::effect::{Effect, ServiceChange};
-use crate::member::{are_joined, are_parted};
-use pb_cmd_survive::is_settled;
+use crate::member::{are_disconnected, are_joined};
+use pb_cmd_survive::is_converged;
 
 /// Checks whether the service forms a loop in NEW, and not in OLD.
 fn forms_loop(change: &ServiceChange) -> bool
@@ -27,7 +27,7 @@ fn ends_loop(change: &ServiceChange) -> bool
 fn harms(change: &ServiceChange) -> bool
     ensures { result ≡ harms change.now }
 {
-    are_parted(change.members.as_slice()) || forms_loop(change)
+    are_disconnected(change.members.as_slice()) || forms_loop(change)
 }
 
 /// Checks whether two ports of the service now reach each other, or it no longer forms a loop.
@@ -41,7 +41,7 @@ fn helps(change: &ServiceChange) -> bool
 fn stops_converging(effect: &Effect) -> bool
     ensures { result ≡ stops_converging effect.now }
 {
-    let (was, is) = (is_settled(effect.old), is_settled(effect.new));
+    let (was, is) = (is_converged(effect.old), is_converged(effect.new));
     was && !is
 }
 
@@ -49,7 +49,7 @@ fn stops_converging(effect: &Effect) -> bool
 fn starts_converging(effect: &Effect) -> bool
     ensures { result ≡ starts_converging effect.now }
 {
-    let (was, is) = (is_settled(effect.old), is_settled(effect.new));
+    let (was, is) = (is_converged(effect.old), is_converged(effect.new));
     is && !was
 }
 

@@ -14,8 +14,8 @@ use Rattle.pb_net.specs.Answers.{NetView}
 use Rattle.pb_relay.specs.Protocol.{spanning_tree}
 use Rattle.pb_report.specs.PlanFiles.{IsToldBy}
 use Rattle.pb_report.specs.Refusals.{PrintsRefusal}
-use Rattle.pb_converge.specs.Drives.{HasRested, ReachesLimit}
-use Rattle.pb_converge.specs.declared.rest.Rest.{Rest}
+use Rattle.pb_converge.specs.Drives.{EndsAs, ReachesLimit}
+use Rattle.pb_converge.specs.declared.convergence.Convergence.{Convergence}
 use Rattle.pb_cmd_draw.specs.Dot.{dot_text}
 use Rattle.pb_draw_layout.specs.Scenes.{IsSceneOf}
 use Rattle.pb_draw_layout.specs.declared.facts.Failures.{Failures}
@@ -52,24 +52,24 @@ pub record IsPictureOf (plan : Plan) (shape : Shape) (chosen : Option ℕ) (fail
 
 -- each bridge ticks at most so many times, and the picture has the states at the end, which are those of a lawful record
 -- in which no allocation failed, and shows what the names disable as failed
-pub record IsDrawingFrom (plan : Plan) (asked : Asked) (fallen : NetView) (rest : Rest) (text : List ℕ) : Type 0 where
+pub record IsDrawingFrom (plan : Plan) (asked : Asked) (fallen : NetView) (convergence : Convergence) (text : List ℕ) : Type 0 where
   pub last : NetView
-  pub rested : HasRested asked.ticks 1000000000 rest fallen last
+  pub ends : EndsAs asked.ticks 1000000000 convergence fallen last
   pub planned : last.plan ≡ plan
   pub lawful : IsLawfulRecord spanning_tree plan last.rec
   pub enough : HasEnoughMemory last.rec
   pub picture : IsPictureOf plan (last_shape plan last.rec) (chosen_of plan asked.service) (failures_of plan asked.downs.now) asked.lists asked.format text
 
 -- what the names disable is disabled first
-pub record IsDrawing (plan : Plan) (asked : Asked) (rest : Rest) (text : List ℕ) : Type 0 where
+pub record IsDrawing (plan : Plan) (asked : Asked) (convergence : Convergence) (text : List ℕ) : Type 0 where
   pub found : is_found plan asked.service ≡ true
   pub fallen : NetView
   pub falls : HaveFallen plan asked.downs.now fallen
-  pub drawing : IsDrawingFrom plan asked fallen rest text
+  pub drawing : IsDrawingFrom plan asked fallen convergence text
 
 -- the picture; or nothing, if a name is refused or the plan lacks the service
 abbrev pub HasDrawn : Plan → Asked → DrawEnd → List ℕ → Type 0
-HasDrawn plan asked (Drawn rest) text = IsDrawing plan asked rest text
+HasDrawn plan asked (Drawn convergence) text = IsDrawing plan asked convergence text
 HasDrawn plan asked (NoDown fault) text = IsRefused plan asked.downs.now fault × (text ≡ [])
 HasDrawn plan asked NoService text = (is_found plan asked.service ≡ false) × (text ≡ [])
 HasDrawn plan asked Refused text = ⊥

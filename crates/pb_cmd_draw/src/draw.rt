@@ -17,7 +17,7 @@ use crate::end::{DrawEnd, Format};
 use crate::failures::failures_of;
 use crate::lists::rooms;
 use crate::svg::put_svg;
-use pb_converge::{DriveFault, Rest, disables, fault_of, fresh, settle, shape_of};
+use pb_converge::{Convergence, DriveFault, converge, disables, fault_of, fresh, shape_of};
 use pb_draw_layout::{Failures, Rooms, scene_of};
 use pb_frame::Memory;
 use pb_lan::{Plan, Record, Shape};
@@ -111,20 +111,20 @@ fn put_last(
 }
 
 /// Drives a network to convergence, and appends its picture. Returns whether the bridges converged.
-fn put_rested(
+fn put_converged(
     alloc: Global,
     out: &mut String,
     plan: &Plan,
     mut net: Net,
     asked: &Asked<'_>,
-) -> Result<Rest, DriveFault>
+) -> Result<Convergence, DriveFault>
     requires sound { IsSound plan.now }
     requires plan { net.plan ≡ plan.now }
-    ensures ok { IfOk result (λ rest. (text : List ℕ) × (string_bytes out.new ≡ string_bytes out.old ++ text)
-        × IsDrawingFrom plan.now asked.now net rest text) }
+    ensures ok { IfOk result (λ convergence. (text : List ℕ) × (string_bytes out.new ≡ string_bytes out.old ++ text)
+        × IsDrawingFrom plan.now asked.now net convergence text) }
     ensures err { IfErr result (λ fault. IsCaused asked.now.ticks 0 0 1000000000 fault net) }
 {
-    let rest = settle(alloc, &mut net, plan, asked.ticks, MOST_EVENTS)?;
+    let convergence = converge(alloc, &mut net, plan, asked.ticks, MOST_EVENTS)?;
     let chosen = chosen_of(plan, asked.service);
     let failed = failures_of(alloc, plan, asked.downs)?;
     let shown = Shown {
@@ -135,7 +135,7 @@ fn put_rested(
     };
     let tallies = net.tallies()?;
     put_last(alloc, out, plan, &tallies, shown)?;
-    Ok(rest)
+    Ok(convergence)
 }
 
 /// Disables what `asked.downs` names, and appends the picture. If a name is unknown or ambiguous, nothing is appended,
@@ -157,8 +157,8 @@ fn put_fallen(
     match disables(alloc, &mut net, plan, asked.downs)? {
         Some(fault) => Ok(DrawEnd::NoDown(fault)),
         None => {
-            let rest = put_rested(alloc, out, plan, net, asked)?;
-            Ok(DrawEnd::Drawn(rest))
+            let convergence = put_converged(alloc, out, plan, net, asked)?;
+            Ok(DrawEnd::Drawn(convergence))
         }
     }
 }

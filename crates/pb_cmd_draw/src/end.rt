@@ -1,6 +1,6 @@
 //! How the command ends, and the formats of a picture.
 
-use pb_converge::{DownFault, Rest};
+use pb_converge::{Convergence, DownFault};
 
 /// The format of a picture.
 #[derive(Clone, Copy, Debug, PartialEq, Eq)]
@@ -15,7 +15,7 @@ pub enum Format {
 #[derive(Clone, Copy, Debug, PartialEq, Eq)]
 pub enum DrawEnd {
     /// The picture was written, with whether the bridges converged.
-    Drawn(Rest),
+    Drawn(Convergence),
     /// The file is not a valid plan, and the line `plan: N WORD` was written.
     Refused,
     /// A name to disable is unknown or ambiguous. Nothing was written.

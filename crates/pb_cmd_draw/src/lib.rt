@@ -23,7 +23,7 @@ pub use dot::put_dot;
 pub use draw::run_draw;
 pub use end::{DrawEnd, Format};
 pub use failures::failures_of;
-pub use pb_converge::{DownFault, Rest};
+pub use pb_converge::{Convergence, DownFault};
 pub use pb_draw_layout::{
     BridgeFacts, BridgeMark, DownEnds, Failures, Key, KeyMark, Lane, LinkFacts, LinkMark,
     LinkState, Point, PortFacts, PortMark, Room, Rooms, Route, Scene, ServiceFacts, ServiceMark,

@@ -95,7 +95,7 @@ fn put_joined_names(out: &mut String, plan: &Plan, numbers: &[u8]) -> Result<(),
 }
 
 /// Appends how many names of a list of so many are not shown, if any.
-fn put_rest(out: &mut String, count: usize) -> Result<(), Memory>
+fn put_convergence(out: &mut String, count: usize) -> Result<(), Memory>
     ensures { OnOk result (string_bytes out.new ≡ string_bytes out.old ++ rest_words count) }
 {
     let shown = shown_names(count);
@@ -113,7 +113,7 @@ fn put_listed(out: &mut String, plan: &Plan, numbers: &[u8]) -> Result<(), Memor
 {
     let shown = shown_names(numbers.len());
     put_joined_names(out, plan, &numbers[..shown])?;
-    put_rest(out, numbers.len())
+    put_convergence(out, numbers.len())
 }
 
 /// Appends the services of a port.

@@ -4,12 +4,13 @@ use Rattle.std.specs.Global.{Global}
 use Rattle.std.specs.List.{AllZip}
 use Rattle.std.specs.declared.string.String.{String}
 use Rattle.pb_converge.specs.Enough.{HasEnoughMemory}
-use Rattle.pb_converge.specs.declared.rest.Rest.{Rest}
+use Rattle.pb_converge.specs.declared.convergence.Convergence.{Convergence}
 use Rattle.pb_lan.specs.LastShapes.{last_shape}
 use Rattle.pb_lan.specs.Records.{IsLawfulRecord}
 use Rattle.pb_lan.specs.declared.plan.Plan.{Plan}
 use Rattle.pb_net.specs.Answers.{NetView}
 use Rattle.pb_relay.specs.Protocol.{spanning_tree}
+use Rattle.pb_cmd_survive.specs.Failures.{is_out}
 use Rattle.pb_cmd_survive.specs.Impacts.{IsImpact}
 use Rattle.pb_cmd_survive.specs.Survivals.{most_events}
 use Rattle.pb_cmd_survive.specs.Views.{AreViews}
@@ -38,10 +39,10 @@ AreAnalyses plan names services most events failures analyses =
     AllZip (IsAnalysis plan names services most events) failures analyses
 
 -- what is seen in a network after a failure: its ports, and its services
-pub record IsSeen (plan : Plan) (services : List ℕ) (failure : Failure) (rest : Rest) (net : NetView) (a : Analysis) : Type 0 where
+pub record IsSeen (plan : Plan) (names : List (String Global)) (services : List ℕ) (failure : Failure) (convergence : Convergence) (net : NetView) (a : Analysis) : Type 0 where
   pub failed : a.impact.failure ≡ failure
-  pub rested : a.impact.rest ≡ rest
+  pub converged : a.impact.convergence ≡ convergence
   pub lawful : IsLawfulRecord spanning_tree plan net.rec
   pub enough : HasEnoughMemory net.rec
   pub shape_is : a.shape ≡ last_shape plan net.rec
-  pub views : AreViews plan (last_shape plan net.rec) failure services a.impact.views
+  pub views : AreViews plan (last_shape plan net.rec) (is_out plan names failure) services a.impact.views

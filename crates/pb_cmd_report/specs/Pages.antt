@@ -9,13 +9,13 @@ use Rattle.pb_lan.specs.declared.plan.Plan.{Plan}
 use Rattle.pb_lan.specs.declared.plan.Spanning.{Spanning}
 use Rattle.pb_lan.specs.declared.plan.Spanning.TheVariants.{Fixed, Rstp}
 use Rattle.pb_net.specs.Answers.{NetView}
-use Rattle.pb_converge.specs.declared.rest.Rest.{Rest}
+use Rattle.pb_converge.specs.declared.convergence.Convergence.{Convergence}
 use Rattle.pb_report.specs.PlanFiles.{IsToldBy}
 use Rattle.pb_report.specs.Refusals.{IsRefusalText}
 use Rattle.pb_cmd_survive.specs.Failures.{all_failures}
 use Rattle.pb_cmd_survive.specs.Impacts.{IsCalm}
 use Rattle.pb_cmd_survive.specs.Survivals.{most_events}
-use Rattle.pb_cmd_survive.specs.Verdicts.{is_settled, are_forests, parts}
+use Rattle.pb_cmd_survive.specs.Verdicts.{is_converged, are_forests, disconnects}
 use Rattle.pb_cmd_survive.specs.declared.failure.Failure.TheVariants.{Nothing}
 use Rattle.pb_cmd_survive.specs.declared.standing.Standing.{Standing}
 use Rattle.pb_cmd_report.specs.Changes.{IsCalmPicture, IsChange}
@@ -45,9 +45,9 @@ count_words what number = what ++ decimal number
 abbrev pub counts_text : Analysis → List Analysis → List ℕ
 counts_text base analyses =
     count_words (codes "<p id=\"counts\">Failures analysed: ") (length analyses)
-    ++ count_words (codes ". With a disconnected service: ") (count_by (λ a. parts criteria base.impact a.impact) analyses)
+    ++ count_words (codes ". With a disconnected service: ") (count_by (λ a. disconnects criteria base.impact a.impact) analyses)
     ++ count_words (codes ". With a forwarding loop: ") (count_by (λ a. not (are_forests a.impact.views)) analyses)
-    ++ count_words (codes ". Without convergence: ") (count_by (λ a. not (is_settled a.impact.rest)) analyses)
+    ++ count_words (codes ". Without convergence: ") (count_by (λ a. not (is_converged a.impact.convergence)) analyses)
     ++ codes ".</p>\n"
 
 -- the picture, with all that comes before it
@@ -81,9 +81,9 @@ page_text plan title source change picture trees base analyses =
 
 -- the rows of the spanning tree, with nothing down
 pub record AreProtocolRows (plan : Plan) (names : List (String Global)) (ticks events : ℕ) (trees : List ℕ) : Type 0 where
-  pub rest : Rest
+  pub convergence : Convergence
   pub calm : NetView
-  pub is_calm : IsCalm plan names ticks events rest calm
+  pub is_calm : IsCalm plan names ticks events convergence calm
   pub rows : trees ≡ protocol_rows plan calm.rec
 
 abbrev pub AreTreesBy : Spanning → Plan → List (String Global) → ℕ → ℕ → Analysis → List ℕ → Type 0

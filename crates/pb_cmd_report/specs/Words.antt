@@ -6,16 +6,16 @@ use Rattle.pb_lan.specs.Shapes.{is_active}
 use Rattle.pb_lan.specs.declared.plan.Plan.{Plan}
 use Rattle.pb_lan.specs.declared.plan.LinkPlan.{LinkPlan}
 use Rattle.pb_lan.specs.declared.shape.Shape.{Shape}
-use Rattle.pb_converge.specs.declared.rest.Rest.{Rest}
-use Rattle.pb_converge.specs.declared.rest.Rest.TheVariants.{Given, Settled, Unsettled}
+use Rattle.pb_converge.specs.declared.convergence.Convergence.{Convergence}
+use Rattle.pb_converge.specs.declared.convergence.Convergence.TheVariants.{Given, Converged, NotConverged}
 use Rattle.pb_cmd_survive.specs.Verdicts.{is_split}
 use Rattle.pb_cmd_survive.specs.declared.view.View.{View}
 
 -- whether the bridges converged, and after how many ticks of each, which are seconds
-abbrev pub rest_words : Rest → List ℕ
-rest_words Given = codes "states given"
-rest_words (Settled ticks) = decimal ticks ++ codes " s"
-rest_words (Unsettled ticks) = codes "not in " ++ decimal ticks ++ codes " s"
+abbrev pub convergence_words : Convergence → List ℕ
+convergence_words Given = codes "states given"
+convergence_words (Converged ticks) = decimal ticks ++ codes " s"
+convergence_words (NotConverged ticks) = codes "not in " ++ decimal ticks ++ codes " s"
 
 -- the health of a service
 abbrev pub health_word : View → List ℕ

@@ -6,7 +6,7 @@ ghost use Rattle.pb_cmd_survive.specs.Impacts.{IsDriven, IsStanding};
 ghost use Rattle.pb_cmd_report.specs.Analyses.{IsAnalysisOn, IsSeen};
 
 use pb_cmd_survive::{Failure, FailureProgress, Impact, Standing, drive_into, look_each, views};
-use pb_converge::{DriveFault, Rest, shape_of};
+use pb_converge::{Convergence, DriveFault, shape_of};
 use pb_lan::Shape;
 use pb_net::Net;
 use std::alloc::Global;
@@ -28,20 +28,20 @@ fn seen_in(
     services: &[u8],
     failure: Failure,
     net: Net,
-    rest: Rest,
+    convergence: Convergence,
 ) -> Result<Analysis, DriveFault>
     requires up { IsStanding standing.now }
     requires planned { net.plan ≡ standing.now.plan.now }
-    ensures { IfOk result (IsSeen standing.now.plan.now services.now failure rest net) }
+    ensures { IfOk result (IsSeen standing.now.plan.now standing.now.names.now services.now failure convergence net) }
 {
     let plan = standing.plan;
     let tallies = net.tallies()?;
     let shape = shape_of(alloc, plan, &tallies)?;
-    let views = views(alloc, plan, &shape, failure, services)?;
+    let views = views(alloc, plan, &shape, standing.names, failure, services)?;
     Ok(Analysis {
         impact: Impact {
             failure,
-            rest,
+            convergence,
             views,
         },
         shape,
@@ -64,8 +64,8 @@ pub(crate) fn look_at(
     requires { IsStanding standing.now }
     ensures { IfOk result (IsAnalysisOn standing.now services.now failure) }
 {
-    let (net, rest) = drive_into(alloc, standing, failure)?;
-    seen_in(alloc, standing, services, failure, net, rest)
+    let (net, convergence) = drive_into(alloc, standing, failure)?;
+    seen_in(alloc, standing, services, failure, net, convergence)
 }
 
 /// Returns the analyses of several failures, in their order, each as [`look_at`] returns it.

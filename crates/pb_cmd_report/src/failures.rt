@@ -4,18 +4,19 @@ ghost use Rattle.std.specs.Prelude.{◌≡◌, ◌++◌, flat_map, string_bytes,
 ghost use Rattle.std.specs.List.{zip};
 ghost use Rattle.pb_lan.specs.Plans.{IsSound};
 ghost use Rattle.pb_cmd_survive.specs.Reports.{failure_text};
-ghost use Rattle.pb_cmd_report.specs.Failures.{loop_text, loops_text, parted_view, parted_text, failure_cells};
+ghost use Rattle.pb_cmd_report.specs.Failures.{loop_text, loops_text, disconnected_view, disconnected_text};
+ghost use Rattle.pb_cmd_report.specs.Failures.{failure_cells};
 ghost use Rattle.pb_cmd_report.specs.Failures.{failure_row};
 ghost use Rattle.pb_cmd_report.specs.Html.{cell_of};
-ghost use Rattle.pb_cmd_report.specs.Words.{rest_words};
+ghost use Rattle.pb_cmd_report.specs.Words.{convergence_words};
 
 use crate::analysis::Analysis;
 use crate::criteria::CRITERIA;
 use crate::html::put_cell;
 use crate::states::put_states;
-use crate::words::put_rest_words;
-use pb_cmd_survive::{Failure, Impact, View, parts_view, put_failure, put_groups};
-use pb_converge::Rest;
+use crate::words::put_convergence_words;
+use pb_cmd_survive::{Failure, Impact, View, disconnects_view, put_failure, put_groups};
+use pb_converge::Convergence;
 use pb_frame::Memory;
 use pb_lan::Plan;
 use pb_names::service_name;
@@ -45,11 +46,16 @@ fn put_loops(out: &mut String, plan: &Plan, views: &[View]) -> Result<(), Memory
 
 /// Appends the line of a service, if the failure disconnects it: its name, and its customer ports in groups that reach
 /// each other.
-fn put_parted_view(out: &mut String, plan: &Plan, old: &View, new: &View) -> Result<(), Memory>
+fn put_disconnected_view(
+    out: &mut String,
+    plan: &Plan,
+    old: &View,
+    new: &View,
+) -> Result<(), Memory>
     ensures { OnOk result (string_bytes out.new ≡ string_bytes out.old
-        ++ parted_view plan.now (old.now, new.now)) }
+        ++ disconnected_view plan.now (old.now, new.now)) }
 {
-    if !parts_view(CRITERIA, old, new) {
+    if !disconnects_view(CRITERIA, old, new) {
         return Ok(());
     }
     out.push_str(service_name(plan, new.service))?;
@@ -60,12 +66,12 @@ fn put_parted_view(out: &mut String, plan: &Plan, old: &View, new: &View) -> Res
 }
 
 /// Appends the lines of the services that the failure disconnects.
-fn put_parted(out: &mut String, plan: &Plan, old: &[View], new: &[View]) -> Result<(), Memory>
+fn put_disconnected(out: &mut String, plan: &Plan, old: &[View], new: &[View]) -> Result<(), Memory>
     ensures { OnOk result (string_bytes out.new ≡ string_bytes out.old
-        ++ flat_map (parted_view plan.now) (zip old.now new.now)) }
+        ++ flat_map (disconnected_view plan.now) (zip old.now new.now)) }
 {
     for place in 0..old.len().min(new.len()) {
-        put_parted_view(out, plan, &old[place], &new[place])?;
+        put_disconnected_view(out, plan, &old[place], &new[place])?;
     }
     Ok(())
 }
@@ -86,11 +92,15 @@ fn put_failure_cell(
 }
 
 /// Appends the cell of whether the bridges converged.
-fn put_rest_cell(alloc: Global, out: &mut String, rest: Rest) -> Result<(), Memory>
-    ensures { OnOk result (string_bytes out.new ≡ string_bytes out.old ++ cell_of (rest_words rest)) }
+fn put_convergence_cell(
+    alloc: Global,
+    out: &mut String,
+    convergence: Convergence,
+) -> Result<(), Memory>
+    ensures { OnOk result (string_bytes out.new ≡ string_bytes out.old ++ cell_of (convergence_words convergence)) }
 {
     let mut text = String::new(alloc);
-    put_rest_words(&mut text, rest)?;
+    put_convergence_words(&mut text, convergence)?;
     put_cell(out, text.as_str())
 }
 
@@ -110,7 +120,7 @@ fn put_loops_cell(
 }
 
 /// Appends the cell of the services that the failure disconnects.
-fn put_parted_cell(
+fn put_disconnected_cell(
     alloc: Global,
     out: &mut String,
     plan: &Plan,
@@ -118,10 +128,10 @@ fn put_parted_cell(
     impact: &Impact,
 ) -> Result<(), Memory>
     ensures { OnOk result (string_bytes out.new ≡ string_bytes out.old
-        ++ cell_of (parted_text plan.now base.now impact.now)) }
+        ++ cell_of (disconnected_text plan.now base.now impact.now)) }
 {
     let mut text = String::new(alloc);
-    put_parted(
+    put_disconnected(
         &mut text,
         plan,
         base.views.as_slice(),
@@ -142,9 +152,9 @@ fn put_failure_cells(
         ++ failure_cells plan.now base.now impact.now) }
 {
     put_failure_cell(alloc, out, plan, impact.failure)?;
-    put_rest_cell(alloc, out, impact.rest)?;
+    put_convergence_cell(alloc, out, impact.convergence)?;
     put_loops_cell(alloc, out, plan, impact.views.as_slice())?;
-    put_parted_cell(alloc, out, plan, base, impact)
+    put_disconnected_cell(alloc, out, plan, base, impact)
 }
 
 /// Appends the row of a failure.

@@ -2,7 +2,7 @@
 
 ghost use Rattle.std.specs.Prelude.{◌≡◌, ◌++◌, List, ℕ, not, count_by, string_bytes, OnOk};
 ghost use Rattle.pb_cmd_survive.specs.Impacts.{IsStanding};
-ghost use Rattle.pb_cmd_survive.specs.Verdicts.{is_settled, are_forests, parts};
+ghost use Rattle.pb_cmd_survive.specs.Verdicts.{is_converged, are_forests, disconnects};
 ghost use Rattle.pb_lan.specs.Plans.{IsSound};
 ghost use Rattle.pb_cmd_report.specs.Changes.{IsCalmPicture};
 ghost use Rattle.pb_cmd_report.specs.Failures.{criteria};
@@ -26,7 +26,7 @@ use crate::texts::{
     SITES, TABLE_END, TITLE, TREE,
 };
 use crate::trees::{put_given, put_protocol};
-use pb_cmd_survive::{Standing, are_forests, is_settled, parts};
+use pb_cmd_survive::{Standing, are_forests, disconnects, is_converged};
 use pb_frame::Memory;
 use pb_lan::{Plan, Spanning};
 use std::alloc::Global;
@@ -44,12 +44,12 @@ fn put_head(out: &mut String, title: &str) -> Result<(), Memory>
 }
 
 /// Returns how many failures disconnect a service.
-fn count_parting(base: &Analysis, analyses: &[Analysis]) -> usize
-    ensures { result ≡ count_by (λ a. parts criteria base.now.impact a.impact) analyses.now }
+fn count_disconnecting(base: &Analysis, analyses: &[Analysis]) -> usize
+    ensures { result ≡ count_by (λ a. disconnects criteria base.now.impact a.impact) analyses.now }
 {
     analyses
         .iter()
-        .filter(|analysis| parts(CRITERIA, &base.impact, &analysis.impact))
+        .filter(|analysis| disconnects(CRITERIA, &base.impact, &analysis.impact))
         .count()
 }
 
@@ -64,12 +64,12 @@ fn count_looping(analyses: &[Analysis]) -> usize
 }
 
 /// Returns after how many failures the bridges do not converge.
-fn count_unsettled(analyses: &[Analysis]) -> usize
-    ensures { result ≡ count_by (λ a. not (is_settled a.impact.rest)) analyses.now }
+fn count_not_converged(analyses: &[Analysis]) -> usize
+    ensures { result ≡ count_by (λ a. not (is_converged a.impact.convergence)) analyses.now }
 {
     analyses
         .iter()
-        .filter(|analysis| !is_settled(analysis.impact.rest))
+        .filter(|analysis| !is_converged(analysis.impact.convergence))
         .count()
 }
 
@@ -85,13 +85,13 @@ fn put_count(out: &mut String, what: &str, number: usize) -> Result<(), Memory>
 fn put_counts(out: &mut String, base: &Analysis, analyses: &[Analysis]) -> Result<(), Memory>
     ensures { OnOk result (string_bytes out.new ≡ string_bytes out.old ++ counts_text base.now analyses.now) }
 {
-    let parting = count_parting(base, analyses);
+    let disconnecting = count_disconnecting(base, analyses);
     let looping = count_looping(analyses);
-    let unsettled = count_unsettled(analyses);
+    let not_converged = count_not_converged(analyses);
     put_count(out, "<p id=\"counts\">Failures analysed: ", analyses.len())?;
-    put_count(out, ". With a disconnected service: ", parting)?;
+    put_count(out, ". With a disconnected service: ", disconnecting)?;
     put_count(out, ". With a forwarding loop: ", looping)?;
-    put_count(out, ". Without convergence: ", unsettled)?;
+    put_count(out, ". Without convergence: ", not_converged)?;
     out.push_str(".</p>\n")?;
     Ok(())
 }

@@ -1,22 +1,25 @@
 //! Words in the cells of the tables.
 
 ghost use Rattle.std.specs.Prelude.{◌≡◌, ◌++◌, flat_map, string_bytes, OnOk};
-ghost use Rattle.pb_cmd_report.specs.Words.{rest_words, health_word, active_text, tree_text};
+ghost use Rattle.pb_cmd_report.specs.Words.{convergence_words, health_word, active_text, tree_text};
 
 use pb_cmd_survive::{View, is_split};
-use pb_converge::Rest;
+use pb_converge::Convergence;
 use pb_forest::{is_active, vid_numbered};
 use pb_frame::Memory;
 use pb_lan::{LinkPlan, Plan, Shape};
 
 /// Appends whether the bridges converged, and after how many ticks of each.
-pub(crate) fn put_rest_words(out: &mut String, rest: Rest) -> Result<(), Memory>
-    ensures { OnOk result (string_bytes out.new ≡ string_bytes out.old ++ rest_words rest) }
+pub(crate) fn put_convergence_words(
+    out: &mut String,
+    convergence: Convergence,
+) -> Result<(), Memory>
+    ensures { OnOk result (string_bytes out.new ≡ string_bytes out.old ++ convergence_words convergence) }
 {
-    match rest {
-        Rest::Given => out.push_str("states given")?,
-        Rest::Settled(ticks) => write!(out, "{ticks} s")?,
-        Rest::Unsettled(ticks) => write!(out, "not in {ticks} s")?,
+    match convergence {
+        Convergence::Given => out.push_str("states given")?,
+        Convergence::Converged(ticks) => write!(out, "{ticks} s")?,
+        Convergence::NotConverged(ticks) => write!(out, "not in {ticks} s")?,
     }
     Ok(())
 }

@@ -14,12 +14,10 @@ use Rattle.pb_lan.specs.Plans.{IsSound, IsNumber, IsSoundCustomer}
 use Rattle.pb_lan.specs.declared.plan.Plan.{Plan}
 use Rattle.pb_lan.specs.declared.plan.CustomerPlan.{CustomerPlan}
 use Rattle.pb_lan.specs.declared.shape.Shape.{Shape}
-use Rattle.pb_cmd_survive.specs.Failures.{is_out}
 use Rattle.pb_cmd_survive.specs.Groups.{ports_from, ports_of, is_port_out, AreGroups, color_by, color_of, lead_of}
 use Rattle.pb_cmd_survive.specs.Groups.{site_of}
 use Rattle.pb_joins.specs.Joins.{mark_at}
 use Rattle.pb_cmd_survive.specs.Reach.{CanReach, TellsJoined}
-use Rattle.pb_cmd_survive.specs.declared.failure.Failure.{Failure}
 use Rattle.pb_cmd_survive.specs.declared.sites.Site.{Site}
 
 -- the numbers are at least low and less than high
@@ -142,17 +140,17 @@ customer_number plan sound p c e =
     (s.bridge.0, let up = s.bridge.1 in let most = sound.limits.bridges in omega (arith, up, most))
 
 -- ports with one number reach each other
-reach_by_color : (plan : Plan) (shape : Shape) (failure : Failure) (vid : ℕ) (marks : List ℕ)
+reach_by_color : (plan : Plan) (shape : Shape) (out : ℕ → Bool) (vid : ℕ) (marks : List ℕ)
     → AreMarks plan shape vid marks
     → (p q : ℕ) (c d : CustomerPlan) → numbered plan.customers p ≡ Some c → numbered plan.customers q ≡ Some d
-    → color_of plan marks failure p ≡ color_of plan marks failure q → CanReach plan shape failure vid p q
-reach_by_color plan shape failure vid marks m p q c d e f h =
-    by (is_out failure c.bridge) (is_out failure d.bridge) refl refl
-    (sym (ap (color_by marks failure p) e) ∙ h ∙ ap (color_by marks failure q) f)
+    → color_of plan marks out p ≡ color_of plan marks out q → CanReach plan shape out vid p q
+reach_by_color plan shape out vid marks m p q c d e f h =
+    by (out c.bridge) (out d.bridge) refl refl
+    (sym (ap (color_by marks out p) e) ∙ h ∙ ap (color_by marks out q) f)
   where
-    by : (b g : Bool) → is_out failure c.bridge ≡ b → is_out failure d.bridge ≡ g
+    by : (b g : Bool) → out c.bridge ≡ b → out d.bridge ≡ g
         → cond b (p + 32) (mark_at marks c.bridge) ≡ cond g (q + 32) (mark_at marks d.bridge)
-        → CanReach plan shape failure vid p q
+        → CanReach plan shape out vid p q
     by true true u v same = inl (omega (arith, same))
     by true false u v same = let few = m.below d.bridge in absurd (omega (arith, same, few))
     by false true u v same = let few = m.below c.bridge in absurd (omega (arith, same, few))
@@ -168,79 +166,79 @@ reach_by_color plan shape failure vid marks m p q c d e f h =
     }
 
 -- ports that reach each other have one number
-color_by_reach : (plan : Plan) (shape : Shape) (failure : Failure) (vid : ℕ) (marks : List ℕ)
+color_by_reach : (plan : Plan) (shape : Shape) (out : ℕ → Bool) (vid : ℕ) (marks : List ℕ)
     → AreMarks plan shape vid marks
-    → (p q : ℕ) → CanReach plan shape failure vid p q → color_of plan marks failure p ≡ color_of plan marks failure q
-color_by_reach plan shape failure vid marks m p q (inl e) = ap (color_of plan marks failure) e
-color_by_reach plan shape failure vid marks m p q (inr l) =
+    → (p q : ℕ) → CanReach plan shape out vid p q → color_of plan marks out p ≡ color_of plan marks out q
+color_by_reach plan shape out vid marks m p q (inl e) = ap (color_of plan marks out) e
+color_by_reach plan shape out vid marks m p q (inr l) =
     at p l.here l.planned_here l.up_here
     ∙ (m.joined l.here.bridge l.there.bridge (customer_number plan m.sound p l.here l.planned_here)
     (customer_number plan m.sound q l.there l.planned_there)).1 l.joined
     ∙ sym (at q l.there l.planned_there l.up_there)
   where
-    at : (r : ℕ) (c : CustomerPlan) → numbered plan.customers r ≡ Some c → is_out failure c.bridge ≡ false
-        → color_of plan marks failure r ≡ mark_at marks c.bridge
-    at r c e up = ap (color_by marks failure r) e ∙ ap (λ b. cond b (r + 32) (mark_at marks c.bridge)) up
+    at : (r : ℕ) (c : CustomerPlan) → numbered plan.customers r ≡ Some c → out c.bridge ≡ false
+        → color_of plan marks out r ≡ mark_at marks c.bridge
+    at r c e up = ap (color_by marks out r) e ∙ ap (λ b. cond b (r + 32) (mark_at marks c.bridge)) up
 
 map-back : (f : ℕ → Site) (ports : List ℕ) → ((p : ℕ) → (f p).port ≡ p) → map (λ s. s.port) (map f ports) ≡ ports
 map-back f [] same = refl
 map-back f (p ∷ ps) same = ap (λ z. z ∷ map (λ s. s.port) (map f ps)) (same p) ∙ ap (λ zs. p ∷ zs) (map-back f ps same)
 
 -- two sites have one group if and only if their ports have one number
-group_tells : (plan : Plan) (shape : Shape) (failure : Failure) (service vid : ℕ) (marks : List ℕ)
+group_tells : (plan : Plan) (shape : Shape) (out : ℕ → Bool) (service vid : ℕ) (marks : List ℕ)
     → AreMarks plan shape vid marks
     → (j k p q : ℕ) → slice_get (ports_of plan service) j ≡ Some p → slice_get (ports_of plan service) k ≡ Some q
-    → (lead_of (color_of plan marks failure) (ports_of plan service) p ≡ lead_of (color_of plan marks failure)
-    (ports_of plan service) q) ↔ CanReach plan shape failure vid p q
-group_tells plan shape failure service vid marks m j k p q e f = (to, from)
+    → (lead_of (color_of plan marks out) (ports_of plan service) p ≡ lead_of (color_of plan marks out)
+    (ports_of plan service) q) ↔ CanReach plan shape out vid p q
+group_tells plan shape out service vid marks m j k p q e f = (to, from)
   where
-    to : lead_of (color_of plan marks failure) (ports_of plan service) p ≡ lead_of (color_of plan marks failure)
-        (ports_of plan service) q → CanReach plan shape failure vid p q
+    to : lead_of (color_of plan marks out) (ports_of plan service) p ≡ lead_of (color_of plan marks out)
+        (ports_of plan service) q → CanReach plan shape out vid p q
     to h =
-        let a = lead-there (color_of plan marks failure) (ports_of plan service) j p e in
-        let b = lead-there (color_of plan marks failure) (ports_of plan service) k q f in
+        let a = lead-there (color_of plan marks out) (ports_of plan service) j p e in
+        let b = lead-there (color_of plan marks out) (ports_of plan service) k q f in
         let c = port_entry plan service j p e in
         let d = port_entry plan service k q f in
-        reach_by_color plan shape failure vid marks m p q c.0 d.0 c.1 d.1
-        (sym a.same ∙ ap (color_of plan marks failure) h ∙ b.same)
+        reach_by_color plan shape out vid marks m p q c.0 d.0 c.1 d.1
+        (sym a.same ∙ ap (color_of plan marks out) h ∙ b.same)
 
-    from : CanReach plan shape failure vid p q
-        → lead_of (color_of plan marks failure) (ports_of plan service) p ≡ lead_of (color_of plan marks failure)
+    from : CanReach plan shape out vid p q
+        → lead_of (color_of plan marks out) (ports_of plan service) p ≡ lead_of (color_of plan marks out)
         (ports_of plan service) q
-    from r = ap (λ z. unwrap_or (first (λ x. nat_eq (color_of plan marks failure x) z) (ports_of plan service)) 0)
-        (color_by_reach plan shape failure vid marks m p q r)
+    from r = ap (λ z. unwrap_or (first (λ x. nat_eq (color_of plan marks out x) z) (ports_of plan service)) 0)
+        (color_by_reach plan shape out vid marks m p q r)
 
 -- the sites that sites_of makes are the groups of the service, for the contract of groups
-pub groups_are : (plan : Plan) (shape : Shape) (failure : Failure) (service vid : ℕ) (marks : List ℕ)
+pub groups_are : (plan : Plan) (shape : Shape) (out : ℕ → Bool) (service vid : ℕ) (marks : List ℕ)
     → AreMarks plan shape vid marks
-    → AreGroups plan shape failure service vid (map (site_of (color_of plan marks failure) (is_port_out plan failure)
+    → AreGroups plan shape out service vid (map (site_of (color_of plan marks out) (is_port_out plan out)
     (ports_of plan service)) (ports_of plan service))
-groups_are plan shape failure service vid marks m = record {
+groups_are plan shape out service vid marks m = record {
   ports = map-back site (ports_of plan service) (λ p. refl);
   together = λ s t here there. both s t (at s here) (at t there);
-  named = λ s here. let i = at s here in let l = lead-there (color_of plan marks failure) (ports_of plan service)
+  named = λ s here. let i = at s here in let l = lead-there (color_of plan marks out) (ports_of plan service)
       i.place i.port i.there in
       subst (λ z. Contains (ports_of plan service) z) (sym (ap (λ z. z.group) i.is))
       (contained (ports_of plan service) l.place
-      (lead_of (color_of plan marks failure) (ports_of plan service) i.port) l.there);
+      (lead_of (color_of plan marks out) (ports_of plan service) i.port) l.there);
   least = λ s here. let i = at s here in
       subst (λ (z : Site). z.group ≤ z.port) (sym i.is)
-      (lead-least (color_of plan marks failure) i.port (ports_of plan service)
+      (lead-least (color_of plan marks out) i.port (ports_of plan service)
       (ports_rise service 1 plan.customers) i.place i.there);
   outs = λ s here. let i = at s here in
-      subst (λ (z : Site). z.is_out ≡ is_port_out plan failure z.port) (sym i.is) refl;
+      subst (λ (z : Site). z.is_out ≡ is_port_out plan out z.port) (sym i.is) refl;
 }
   where
     site : ℕ → Site
-    site = site_of (color_of plan marks failure) (is_port_out plan failure) (ports_of plan service)
+    site = site_of (color_of plan marks out) (is_port_out plan out) (ports_of plan service)
 
     at : (s : Site) → Contains (map site (ports_of plan service)) s → IsMapped site (ports_of plan service) s
     at s here = member-map site (ports_of plan service) s here
 
     both : (s t : Site) → IsMapped site (ports_of plan service) s → IsMapped site (ports_of plan service) t
-        → (s.group ≡ t.group) ↔ CanReach plan shape failure vid s.port t.port
+        → (s.group ≡ t.group) ↔ CanReach plan shape out vid s.port t.port
     both s t i j =
-        subst (λ (z : Site). (z.group ≡ t.group) ↔ CanReach plan shape failure vid z.port t.port) (sym i.is)
-        (subst (λ (z : Site). ((site i.port).group ≡ z.group) ↔ CanReach plan shape failure vid i.port z.port)
+        subst (λ (z : Site). (z.group ≡ t.group) ↔ CanReach plan shape out vid z.port t.port) (sym i.is)
+        (subst (λ (z : Site). ((site i.port).group ≡ z.group) ↔ CanReach plan shape out vid i.port z.port)
         (sym j.is)
-        (group_tells plan shape failure service vid marks m i.place j.place i.port j.port i.there j.there))
+        (group_tells plan shape out service vid marks m i.place j.place i.port j.port i.there j.there))

@@ -5,7 +5,7 @@ use Rattle.pb_accept.specs.declared.acceptance.Acceptance.{Acceptance}
 use Rattle.pb_accept.specs.declared.acceptance.NamedFailure.{NamedFailure}
 use Rattle.pb_accept.specs.declared.acceptance.NamedFailure.TheVariants.{Link as AtLink, Bridge as AtBridge, Pair as AtPair}
 use Rattle.pb_lan.specs.declared.plan.Plan.{Plan}
-use Rattle.pb_cmd_survive.specs.Verdicts.{parts_view}
+use Rattle.pb_cmd_survive.specs.Verdicts.{disconnects_view}
 use Rattle.pb_cmd_survive.specs.declared.criteria.Criteria.{Criteria}
 use Rattle.pb_cmd_survive.specs.declared.failure.Failure.{Failure}
 use Rattle.pb_cmd_survive.specs.declared.failure.Failure.TheVariants.{Link, Pair, Bridge}
@@ -34,7 +34,7 @@ is_accepted acceptances failure service = list_any (accepts failure service) acc
 -- the failure disconnects a service, and the acceptance accepts that
 abbrev pub is_needed_for : Criteria → Impact → Acceptance → Impact → Bool
 is_needed_for criteria base a o =
-    list_any (λ v. parts_view criteria v && accepts o.failure v.1.service a) (zip base.views o.views)
+    list_any (λ v. disconnects_view criteria v && accepts o.failure v.1.service a) (zip base.views o.views)
 
 -- one of the failures does
 abbrev pub is_needed : Criteria → Impact → List Impact → Acceptance → Bool

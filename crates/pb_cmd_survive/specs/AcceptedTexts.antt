@@ -7,7 +7,7 @@ use Rattle.pb_accept.specs.declared.acceptance.NamedFailure.TheVariants.{Link as
 use Rattle.pb_lan.specs.declared.plan.Plan.{Plan}
 use Rattle.pb_names.specs.Names.{bridge_name, link_name, service_name}
 use Rattle.pb_cmd_survive.specs.Acceptances.{is_stale, is_untried}
-use Rattle.pb_cmd_survive.specs.Verdicts.{parts_view}
+use Rattle.pb_cmd_survive.specs.Verdicts.{disconnects_view}
 use Rattle.pb_cmd_survive.specs.declared.criteria.Criteria.{Criteria}
 use Rattle.pb_cmd_survive.specs.declared.failure.Failure.{Failure}
 use Rattle.pb_cmd_survive.specs.declared.failure.Failure.TheVariants.{Nothing, Link, Pair, Bridge}
@@ -54,7 +54,7 @@ accept_table plan failure service =
 
 -- that table, if the failure disconnects the service
 abbrev pub view_table : Plan → Criteria → Failure → (View × View) → List ℕ
-view_table plan criteria failure v = if parts_view criteria v then accept_table plan failure v.1.service else []
+view_table plan criteria failure v = if disconnects_view criteria v then accept_table plan failure v.1.service else []
 
 -- the tables of a failure, and those of all failures
 abbrev pub impact_tables : Plan → Criteria → Impact → Impact → List ℕ

@@ -1,11 +1,16 @@
 -- The failures, and the ports that they disable.
-use Rattle.std.specs.Prelude.{ℕ, ◌+◌, Bool, true, false, List, [], ◌∷◌, ◌++◌, map, ◌==◌, ◌||◌, if◌then◌else◌}
+use Rattle.std.specs.Prelude.{ℕ, ◌+◌, Bool, true, false, List, [], ◌∷◌, ◌++◌, map, ◌==◌, ◌||◌, string_bytes, if◌then◌else◌}
+use Rattle.std.specs.Global.{Global}
+use Rattle.std.specs.List.{list_any}
+use Rattle.std.specs.declared.string.String.{String}
+use Rattle.pb_frame.specs.Admission.{same}
 use Rattle.pb_lan.specs.Numbering.{numbers_from}
 use Rattle.pb_lan.specs.declared.event.Event.{Event}
 use Rattle.pb_lan.specs.declared.event.Event.TheVariants.{Admin}
 use Rattle.pb_lan.specs.declared.plan.Plan.{Plan}
 use Rattle.pb_lan.specs.declared.plan.End.{End}
 use Rattle.pb_lan.specs.declared.plan.LinkPlan.{LinkPlan}
+use Rattle.pb_names.specs.Names.{bridge_name}
 use Rattle.pb_cmd_survive.specs.declared.failure.Failure.{Failure}
 use Rattle.pb_cmd_survive.specs.declared.failure.Failure.TheVariants.{Nothing, Link, Pair, Bridge}
 use Rattle.pb_cmd_survive.specs.declared.failure.Kinds.{Kinds}
@@ -49,11 +54,19 @@ is_hit (Pair first second) number link = number == first || number == second
 is_hit (Bridge failed) number link = link.a.bridge == failed || link.b.bridge == failed
 
 -- the failure is that of the bridge with this number
-abbrev pub is_out : Failure → ℕ → Bool
-is_out (Bridge failed) bridge = bridge == failed
-is_out Nothing bridge = false
-is_out (Link failed) bridge = false
-is_out (Pair first second) bridge = false
+abbrev pub is_failed : Failure → ℕ → Bool
+is_failed (Bridge failed) bridge = bridge == failed
+is_failed Nothing bridge = false
+is_failed (Link failed) bridge = false
+is_failed (Pair first second) bridge = false
+
+-- the text is the name of the bridge with this number
+abbrev pub has_name : Plan → ℕ → String Global → Bool
+has_name plan bridge w = same (string_bytes w) (bridge_name plan bridge)
+
+-- the bridge is out: the failure is its own, or one of the names of what is down is its name
+abbrev pub is_out : Plan → List (String Global) → Failure → ℕ → Bool
+is_out plan names failure bridge = is_failed failure bridge || list_any (has_name plan bridge) names
 
 -- the event that disables the port at an end of a link
 abbrev pub set_down : End → Event

@@ -4,7 +4,7 @@ use Rattle.std.specs.List.{list_any, list_all, zip}
 use Rattle.pb_accept.specs.declared.acceptance.Acceptance.{Acceptance}
 use Rattle.pb_lan.specs.declared.plan.Plan.{Plan}
 use Rattle.pb_cmd_survive.specs.Acceptances.{is_accepted, is_stale}
-use Rattle.pb_cmd_survive.specs.Verdicts.{is_settled, are_forests, is_healthy, parts_view, parts}
+use Rattle.pb_cmd_survive.specs.Verdicts.{is_converged, are_forests, is_healthy, disconnects_view, disconnects}
 use Rattle.pb_cmd_survive.specs.declared.criteria.Criteria.{Criteria}
 use Rattle.pb_cmd_survive.specs.declared.failure.Failure.{Failure}
 use Rattle.pb_cmd_survive.specs.declared.impact.Impact.{Impact}
@@ -12,7 +12,7 @@ use Rattle.pb_cmd_survive.specs.declared.view.View.{View}
 
 -- the failure disconnects the service, and that is not accepted
 abbrev pub harms_view : Criteria → List Acceptance → Failure → (View × View) → Bool
-harms_view criteria acceptances failure v = parts_view criteria v && not (is_accepted acceptances failure v.1.service)
+harms_view criteria acceptances failure v = disconnects_view criteria v && not (is_accepted acceptances failure v.1.service)
 
 -- the failure disconnects some service, and that is not accepted
 abbrev pub harms : Criteria → List Acceptance → Impact → Impact → Bool
@@ -20,11 +20,11 @@ harms criteria acceptances base o = list_any (harms_view criteria acceptances o.
 
 -- the failure is tolerable: the bridges converge, no service has a loop, and each disconnection is accepted
 abbrev pub is_tolerable : Criteria → List Acceptance → Impact → Impact → Bool
-is_tolerable criteria acceptances base o = is_settled o.rest && are_forests o.views && not (harms criteria acceptances base o)
+is_tolerable criteria acceptances base o = is_converged o.convergence && are_forests o.views && not (harms criteria acceptances base o)
 
 -- the failure is accepted: it disconnects a service, and is tolerable
-abbrev pub is_excused : Criteria → List Acceptance → Impact → Impact → Bool
-is_excused criteria acceptances base o = parts criteria base o && is_tolerable criteria acceptances base o
+abbrev pub is_accepted_impact : Criteria → List Acceptance → Impact → Impact → Bool
+is_accepted_impact criteria acceptances base o = disconnects criteria base o && is_tolerable criteria acceptances base o
 
 -- the network survives: it is healthy with nothing down, and each failure is tolerable
 abbrev pub survives : Criteria → List Acceptance → Impact → List Impact → Bool

@@ -1,16 +1,16 @@
 -- The report on a network under failures.
-use Rattle.std.specs.Prelude.{ℕ, Bool, true, false, List, [], ◌∷◌, ◌++◌, Option, Some, None, flat_map, length, codes, nat_lt, ◌==◌, not, max, count_by, string_bytes, if◌then◌else◌}
+use Rattle.std.specs.Prelude.{ℕ, Bool, true, false, List, [], ◌∷◌, ◌++◌, Option, Some, None, flat_map, length, codes, nat_lt, ◌==◌, ◌&&◌, not, max, count_by, string_bytes, if◌then◌else◌}
 use Rattle.std.specs.Fmt.{decimal}
 use Rattle.std.specs.Global.{Global}
-use Rattle.std.specs.List.{list_any, zip}
+use Rattle.std.specs.List.{list_all, list_any, zip}
 use Rattle.std.specs.declared.string.String.{String}
 use Rattle.pb_lan.specs.declared.plan.Plan.{Plan}
 use Rattle.pb_names.specs.Names.{bridge_name, link_name, port_name, service_name}
-use Rattle.pb_converge.specs.declared.rest.Rest.{Rest}
-use Rattle.pb_converge.specs.declared.rest.Rest.TheVariants.{Given, Settled, Unsettled}
+use Rattle.pb_converge.specs.declared.convergence.Convergence.{Convergence}
+use Rattle.pb_converge.specs.declared.convergence.Convergence.TheVariants.{Given, Converged, NotConverged}
 use Rattle.pb_cmd_survive.specs.Failures.{is_link, is_bridge, is_pair}
-use Rattle.pb_cmd_survive.specs.Verdicts.{is_settled, are_forests, is_split, is_healthy_service, is_healthy, is_lost, parts_view, parts, is_left_out}
-use Rattle.pb_cmd_survive.specs.Judgements.{harms, is_excused, survives}
+use Rattle.pb_cmd_survive.specs.Verdicts.{is_converged, are_forests, is_split, is_healthy_service, is_healthy, is_lost, disconnects_view, disconnects, is_left_out}
+use Rattle.pb_cmd_survive.specs.Judgements.{harms, is_accepted_impact, survives}
 use Rattle.pb_cmd_survive.specs.AcceptedTexts.{stale_text}
 use Rattle.pb_accept.specs.declared.acceptance.Acceptance.{Acceptance}
 use Rattle.pb_cmd_survive.specs.declared.criteria.Criteria.{Criteria}
@@ -36,10 +36,10 @@ failure_text plan (Pair first second) = codes "links " ++ link_name plan first +
 failure_text plan (Bridge number) = codes "bridge " ++ bridge_name plan number ++ codes " down"
 
 -- whether the bridges converged, and after how many ticks of each
-abbrev pub rest_text : Rest → List ℕ
-rest_text Given = codes "states given"
-rest_text (Settled ticks) = codes "settled ticks " ++ decimal ticks
-rest_text (Unsettled ticks) = codes "not settled ticks " ++ decimal ticks
+abbrev pub convergence_text : Convergence → List ℕ
+convergence_text Given = codes "states given"
+convergence_text (Converged ticks) = codes "converged ticks " ++ decimal ticks
+convergence_text (NotConverged ticks) = codes "not converged ticks " ++ decimal ticks
 
 -- whether the shape is a forest for each analysed service
 abbrev pub forest_text : List View → List ℕ
@@ -47,7 +47,7 @@ forest_text views = if are_forests views then codes " forest yes" else codes " f
 
 -- the first line of a failure
 abbrev pub head_line : Plan → Impact → List ℕ
-head_line plan o = failure_text plan o.failure ++ codes ": " ++ rest_text o.rest ++ forest_text o.views ++ 10 ∷ []
+head_line plan o = failure_text plan o.failure ++ codes ": " ++ convergence_text o.convergence ++ forest_text o.views ++ 10 ∷ []
 
 -- a port of a group, after a space
 abbrev pub member_text : Plan → ℕ → Site → List ℕ
@@ -89,16 +89,16 @@ cut_off_line plan criteria port v =
     ++ flat_map (lost_text plan criteria (zip v.0.sites v.1.sites)) (zip v.0.sites v.1.sites) ++ 10 ∷ []
 
 -- how a service is disconnected: its groups, or the ports from which the requested port is cut off
-abbrev pub parting_by : Plan → Criteria → Option ℕ → (View × View) → List ℕ
-parting_by plan criteria None v = service_line plan v.1
-parting_by plan criteria (Some port) v = cut_off_line plan criteria port v
+abbrev pub disconnection_by : Plan → Criteria → Option ℕ → (View × View) → List ℕ
+disconnection_by plan criteria None v = service_line plan v.1
+disconnection_by plan criteria (Some port) v = cut_off_line plan criteria port v
 
-abbrev pub parting_line : Plan → Criteria → (View × View) → List ℕ
-parting_line plan criteria v = parting_by plan criteria criteria.from v
+abbrev pub disconnection_line : Plan → Criteria → (View × View) → List ℕ
+disconnection_line plan criteria v = disconnection_by plan criteria criteria.from v
 
 -- the lines of a service: one if it has a loop, and one if it is disconnected
 abbrev pub view_text : Plan → Criteria → (View × View) → List ℕ
-view_text plan criteria v = loop_line plan v.1 ++ (if parts_view criteria v then parting_line plan criteria v else [])
+view_text plan criteria v = loop_line plan v.1 ++ (if disconnects_view criteria v then disconnection_line plan criteria v else [])
 
 -- that nothing is down, or nothing besides what was down before
 abbrev pub calm_words : Criteria → List ℕ
@@ -106,7 +106,7 @@ calm_words criteria = if criteria.impaired then codes "nothing else down" else c
 
 -- the first line with nothing, or nothing else, down
 abbrev pub calm_line : Criteria → Impact → List ℕ
-calm_line criteria o = calm_words criteria ++ codes ": " ++ rest_text o.rest ++ forest_text o.views ++ 10 ∷ []
+calm_line criteria o = calm_words criteria ++ codes ": " ++ convergence_text o.convergence ++ forest_text o.views ++ 10 ∷ []
 
 -- the lines then: one for each service, and one more for each loop
 abbrev pub whole_text : Plan → Criteria → Impact → List ℕ
@@ -136,12 +136,12 @@ unhealthy_text views =
     else counted (count_by (λ v. not (is_healthy_service v)) views) (codes "service")
 
 -- a text, if the bridges do not converge
-abbrev pub unsettled_text : Impact → List ℕ → List ℕ
-unsettled_text base what = if is_settled base.rest then [] else what
+abbrev pub not_converged_text : Impact → List ℕ → List ℕ
+not_converged_text base what = if is_converged base.convergence then [] else what
 
 -- how many services are not healthy, and whether the bridges converge
 abbrev pub summary_text : Impact → List ℕ
-summary_text base = unhealthy_text base.views ++ unsettled_text base (codes ", bridges do not converge") ++ 10 ∷ []
+summary_text base = unhealthy_text base.views ++ not_converged_text base (codes ", bridges do not converge") ++ 10 ∷ []
 
 -- the summary of a network that is not healthy
 abbrev pub unhealthy_line : Criteria → Impact → List ℕ
@@ -155,12 +155,12 @@ health_line criteria base =
 -- the lines of its health: each reason why it is not healthy, and the summary
 abbrev pub health_text : Plan → Criteria → Impact → List ℕ
 health_text plan criteria base =
-    unsettled_text base (codes "bridges do not converge" ++ 10 ∷ []) ++ flat_map (reasons_text plan) base.views
+    not_converged_text base (codes "bridges do not converge" ++ 10 ∷ []) ++ flat_map (reasons_text plan) base.views
     ++ health_line criteria base
 
 -- the word before a failure that is accepted
 abbrev pub mark_text : Criteria → List Acceptance → Impact → Impact → List ℕ
-mark_text criteria acceptances base o = if is_excused criteria acceptances base o then codes "accepted " else []
+mark_text criteria acceptances base o = if is_accepted_impact criteria acceptances base o then codes "accepted " else []
 
 -- the lines of a failure, unless the report leaves it out
 abbrev pub impact_text : Plan → Criteria → List Acceptance → Impact → Impact → List ℕ
@@ -180,29 +180,33 @@ checked_line impacts =
     ++ kind_text (count_by (λ o. is_pair o.failure) impacts) (codes "pair") ++ 10 ∷ []
 
 -- the ticks of each bridge until they converged
-abbrev pub ticks_of : Rest → ℕ
+abbrev pub ticks_of : Convergence → ℕ
 ticks_of Given = 0
-ticks_of (Settled ticks) = ticks
-ticks_of (Unsettled ticks) = 0
+ticks_of (Converged ticks) = ticks
+ticks_of (NotConverged ticks) = 0
 
 -- the most of them after one of the failures
 abbrev pub slowest : List Impact → ℕ
 slowest [] = 0
-slowest (o ∷ os) = max (ticks_of o.rest) (slowest os)
+slowest (o ∷ os) = max (ticks_of o.convergence) (slowest os)
 
 -- the bridges ticked and converged
-abbrev pub has_converged : Rest → Bool
+abbrev pub has_converged : Convergence → Bool
 has_converged Given = false
-has_converged (Settled ticks) = true
-has_converged (Unsettled ticks) = false
+has_converged (Converged ticks) = true
+has_converged (NotConverged ticks) = false
 
 -- the line of the most ticks until bridges converged
 abbrev pub ticks_line : ℕ → List ℕ
 ticks_line ticks = codes "converges within " ++ counted ticks (codes "tick") ++ 10 ∷ []
 
--- that line, if they did after some failure
+-- something failed, and the bridges ticked and converged after each failure
+abbrev pub all_converged : List Impact → Bool
+all_converged impacts = nat_lt 0 (length impacts) && list_all (λ o. has_converged o.convergence) impacts
+
+-- the line of the most ticks, if they did
 abbrev pub converge_line : List Impact → List ℕ
-converge_line impacts = if list_any (λ o. has_converged o.rest) impacts then ticks_line (slowest impacts) else []
+converge_line impacts = if all_converged impacts then ticks_line (slowest impacts) else []
 
 -- how many of all failures do what is said
 abbrev pub some_line : ℕ → ℕ → List ℕ → List ℕ
@@ -213,53 +217,67 @@ abbrev pub count_line : ℕ → ℕ → List ℕ → List ℕ
 count_line count all what = if count == 0 then [] else some_line count all what
 
 -- how many failures disconnect nothing, and how many do harm, by its kind
-abbrev pub sparing_line : Criteria → Impact → List Impact → List ℕ
-sparing_line criteria base impacts =
-    count_line (count_by (λ o. not (parts criteria base o)) impacts) (length impacts) (codes "disconnect nothing")
+abbrev pub not_disconnecting_line : Criteria → Impact → List Impact → List ℕ
+not_disconnecting_line criteria base impacts =
+    count_line (count_by (λ o. not (disconnects criteria base o)) impacts) (length impacts) (codes "disconnect nothing")
 
-abbrev pub excused_line : Criteria → List Acceptance → Impact → List Impact → List ℕ
-excused_line criteria acceptances base impacts =
-    count_line (count_by (is_excused criteria acceptances base) impacts) (length impacts) (codes "are accepted")
+abbrev pub accepted_line : Criteria → List Acceptance → Impact → List Impact → List ℕ
+accepted_line criteria acceptances base impacts =
+    count_line (count_by (is_accepted_impact criteria acceptances base) impacts) (length impacts) (codes "are accepted")
 
-abbrev pub parting_count_line : Criteria → List Acceptance → Impact → List Impact → List ℕ
-parting_count_line criteria acceptances base impacts =
+abbrev pub disconnecting_line : Criteria → List Acceptance → Impact → List Impact → List ℕ
+disconnecting_line criteria acceptances base impacts =
     count_line (count_by (harms criteria acceptances base) impacts) (length impacts) (codes "disconnect a service")
 
 abbrev pub looping_line : List Impact → List ℕ
 looping_line impacts =
     count_line (count_by (λ o. not (are_forests o.views)) impacts) (length impacts) (codes "form a forwarding loop")
 
-abbrev pub unsettled_line : List Impact → List ℕ
-unsettled_line impacts =
-    count_line (count_by (λ o. not (is_settled o.rest)) impacts) (length impacts) (codes "do not converge")
+abbrev pub not_converged_line : List Impact → List ℕ
+not_converged_line impacts =
+    count_line (count_by (λ o. not (is_converged o.convergence)) impacts) (length impacts) (codes "do not converge")
 
 -- what was checked, and how many failures do what
 abbrev pub totals_text : Criteria → List Acceptance → Impact → List Impact → List ℕ
 totals_text criteria acceptances base impacts =
-    checked_line impacts ++ sparing_line criteria base impacts ++ converge_line impacts
-    ++ excused_line criteria acceptances base impacts ++ parting_count_line criteria acceptances base impacts
-    ++ looping_line impacts ++ unsettled_line impacts
+    checked_line impacts ++ not_disconnecting_line criteria base impacts ++ converge_line impacts
+    ++ accepted_line criteria acceptances base impacts ++ disconnecting_line criteria acceptances base impacts
+    ++ looping_line impacts ++ not_converged_line impacts
 
--- that the network survives every failure, or every one that is not accepted
-abbrev pub surviving_line : Bool → List ℕ
-surviving_line excused =
-    if excused then codes "survives every failure that is not accepted" ++ 10 ∷ []
-    else codes "survives every single failure" ++ 10 ∷ []
+-- what failed, from whether bridges did, and whether two links did
+abbrev pub tried_words : Bool → Bool → List ℕ
+tried_words false false = codes "any one link"
+tried_words true false = codes "any one link or bridge"
+tried_words false true = codes "any two links"
+tried_words true true = codes "any two links or one bridge"
+
+-- that it survives but for what is accepted, if something is
+abbrev pub but_words : Bool → List ℕ
+but_words accepted = if accepted then codes ", but for accepted disconnections" else []
+
+-- what failed, by the failures that were analysed
+abbrev pub tried_text : List Impact → List ℕ
+tried_text impacts = tried_words (list_any (λ o. is_bridge o.failure) impacts) (list_any (λ o. is_pair o.failure) impacts)
+
+-- that the network survives what failed
+abbrev pub surviving_line : List Impact → Bool → List ℕ
+surviving_line impacts accepted =
+    codes "survives the failure of " ++ tried_text impacts ++ but_words accepted ++ 10 ∷ []
 
 -- the last line, if the counts are not the last ones
-abbrev pub last_line : Criteria → Impact → Bool → Bool → List ℕ
-last_line criteria base survived excused =
-    if survived then surviving_line excused else (if is_healthy base then [] else unhealthy_line criteria base)
+abbrev pub last_line : Criteria → Impact → List Impact → Bool → Bool → List ℕ
+last_line criteria base impacts survived accepted =
+    if survived then surviving_line impacts accepted else (if is_healthy base then [] else unhealthy_line criteria base)
 
 -- some failure is accepted
-abbrev pub any_excused : Criteria → List Acceptance → Impact → List Impact → Bool
-any_excused criteria acceptances base impacts = list_any (is_excused criteria acceptances base) impacts
+abbrev pub any_accepted : Criteria → List Acceptance → Impact → List Impact → Bool
+any_accepted criteria acceptances base impacts = list_any (is_accepted_impact criteria acceptances base) impacts
 
 -- the totals, the acceptances that are not needed, and the last line
 abbrev pub ending_text : Plan → Criteria → List Acceptance → Impact → List Impact → List ℕ
 ending_text plan criteria acceptances base impacts =
     totals_text criteria acceptances base impacts ++ stale_text plan criteria acceptances base impacts
-    ++ last_line criteria base (survives criteria acceptances base impacts) (any_excused criteria acceptances base impacts)
+    ++ last_line criteria base impacts (survives criteria acceptances base impacts) (any_accepted criteria acceptances base impacts)
 
 -- the line of what is down before anything fails, if anything is
 abbrev pub names_text : List (String Global) → List ℕ

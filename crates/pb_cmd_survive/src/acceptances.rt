@@ -6,9 +6,9 @@ ghost use Rattle.pb_cmd_survive.specs.Acceptances.{is_named, covers, accepts, is
 ghost use Rattle.pb_cmd_survive.specs.Acceptances.{are_analysed, is_from_all, is_tried, is_stale, is_untried};
 
 use crate::criteria::Criteria;
+use crate::disconnecting::disconnects_view;
 use crate::failure::Failure;
 use crate::impact::Impact;
-use crate::parting::parts_view;
 use crate::view::View;
 use pb_accept::{Acceptance, NamedFailure};
 use pb_lan::Plan;
@@ -62,7 +62,7 @@ fn is_needed_for(criteria: Criteria, base: &Impact, acceptance: Acceptance, impa
         .iter()
         .zip(impact.views.as_slice().iter())
         .any(|(old, new)| {
-            parts_view(criteria, old, new) && accepts(impact.failure, new.service, acceptance)
+            disconnects_view(criteria, old, new) && accepts(impact.failure, new.service, acceptance)
         })
 }
 

@@ -8,7 +8,7 @@ ghost use Rattle.pb_cmd_survive.specs.Impacts.{IsDriven, IsFailed, IsStanding};
 
 use crate::failure::Failure;
 use crate::standing::Standing;
-use pb_converge::{DriveFault, Rest, copied, fault_in, settle};
+use pb_converge::{Convergence, DriveFault, converge, copied, fault_in};
 use pb_frame::Memory;
 use pb_lan::{End, Event, LinkPlan, Plan};
 use pb_net::{Net, NetFault};
@@ -83,7 +83,11 @@ fn take_down(alloc: Global, net: &mut Net, plan: &Plan, failure: Failure) -> Res
 }
 
 /// Lets a copy of a network that is up fail: disables the links that fail, and drives it to convergence again.
-fn fail(alloc: Global, standing: &Standing<'_>, failure: Failure) -> Result<(Net, Rest), DriveFault>
+fn fail(
+    alloc: Global,
+    standing: &Standing<'_>,
+    failure: Failure,
+) -> Result<(Net, Convergence), DriveFault>
     requires { IsStanding standing.now }
     ensures plan { IfOk result (λ after. after.0.plan ≡ standing.now.plan.now) }
     ensures ok { IfOk result (λ after. IsFailed standing.now.plan.now standing.now.names.now standing.now.patience.ticks
@@ -92,8 +96,8 @@ fn fail(alloc: Global, standing: &Standing<'_>, failure: Failure) -> Result<(Net
     let (plan, patience) = (standing.plan, standing.patience);
     let mut net = copied(&standing.up)?;
     take_down(alloc, &mut net, plan, failure)?;
-    let rest = settle(alloc, &mut net, plan, patience.ticks, patience.events)?;
-    Ok((net, rest))
+    let convergence = converge(alloc, &mut net, plan, patience.ticks, patience.events)?;
+    Ok((net, convergence))
 }
 
 /// Drives a copy of a network that is up into a failure and to convergence again (IEEE 802.1D-2004 clause 17). Returns
@@ -108,14 +112,14 @@ pub fn drive_into(
     alloc: Global,
     standing: &Standing<'_>,
     failure: Failure,
-) -> Result<(Net, Rest), DriveFault>
+) -> Result<(Net, Convergence), DriveFault>
     requires { IsStanding standing.now }
     ensures plan { IfOk result (λ after. after.0.plan ≡ standing.now.plan.now) }
     ensures ok { IfOk result (λ after. IsDriven standing.now.plan.now standing.now.names.now standing.now.patience.ticks
         standing.now.patience.events failure after.1 after.0) }
 {
     match failure {
-        Failure::Nothing => Ok((copied(&standing.calm)?, standing.rest)),
+        Failure::Nothing => Ok((copied(&standing.calm)?, standing.convergence)),
         Failure::Link(_) | Failure::Pair(_, _) | Failure::Bridge(_) => {
             fail(alloc, standing, failure)
         }

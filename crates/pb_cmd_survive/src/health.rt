@@ -2,14 +2,14 @@
 
 ghost use Rattle.std.specs.Prelude.{◌≡◌, ◌++◌, flat_map, not, count_by, string_bytes, OnOk};
 ghost use Rattle.pb_cmd_survive.specs.Reports.{about_line, split_line, loop_reason_line, few_line, reasons_text};
-ghost use Rattle.pb_cmd_survive.specs.Reports.{unsettled_text, unhealthy_text, unhealthy_line};
+ghost use Rattle.pb_cmd_survive.specs.Reports.{not_converged_text, unhealthy_text, unhealthy_line};
 ghost use Rattle.pb_cmd_survive.specs.Reports.{calm_words, summary_text, health_line, health_text};
 ghost use Rattle.pb_cmd_survive.specs.Verdicts.{is_healthy_service};
 
 use crate::counted::put_counted;
 use crate::criteria::Criteria;
 use crate::impact::Impact;
-use crate::verdict::{is_healthy, is_healthy_service, is_settled, is_split};
+use crate::verdict::{is_converged, is_healthy, is_healthy_service, is_split};
 use crate::view::View;
 use pb_frame::Memory;
 use pb_lan::Plan;
@@ -88,10 +88,10 @@ fn put_services(out: &mut String, views: &[View]) -> Result<(), Memory>
 }
 
 /// Appends a text, if the bridges do not converge.
-fn put_unsettled(out: &mut String, base: &Impact, what: &str) -> Result<(), Memory>
-    ensures { OnOk result (string_bytes out.new ≡ string_bytes out.old ++ unsettled_text base.now what.now) }
+fn put_not_converged(out: &mut String, base: &Impact, what: &str) -> Result<(), Memory>
+    ensures { OnOk result (string_bytes out.new ≡ string_bytes out.old ++ not_converged_text base.now what.now) }
 {
-    if !is_settled(base.rest) {
+    if !is_converged(base.convergence) {
         out.push_str(what)?;
     }
     Ok(())
@@ -114,7 +114,7 @@ fn put_summary(out: &mut String, base: &Impact) -> Result<(), Memory>
     ensures { OnOk result (string_bytes out.new ≡ string_bytes out.old ++ summary_text base.now) }
 {
     put_services(out, base.views.as_slice())?;
-    put_unsettled(out, base, ", bridges do not converge")?;
+    put_not_converged(out, base, ", bridges do not converge")?;
     out.push_str("\n")?;
     Ok(())
 }
@@ -166,7 +166,7 @@ pub(crate) fn put_health(
 ) -> Result<(), Memory>
     ensures { OnOk result (string_bytes out.new ≡ string_bytes out.old ++ health_text plan.now criteria base.now) }
 {
-    put_unsettled(out, base, "bridges do not converge\n")?;
+    put_not_converged(out, base, "bridges do not converge\n")?;
     put_all_reasons(out, plan, base.views.as_slice())?;
     put_health_line(out, criteria, base)
 }

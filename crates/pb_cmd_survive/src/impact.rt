@@ -2,7 +2,7 @@
 
 use crate::failure::Failure;
 use crate::view::View;
-use pb_converge::Rest;
+use pb_converge::Convergence;
 use pb_lan::Seq;
 
 /// The impact of a failure on the services of a network.
@@ -11,7 +11,7 @@ pub struct Impact {
     /// The failure.
     pub failure: Failure,
     /// Whether the bridges converged after it, and after how many ticks of each.
-    pub rest: Rest,
+    pub convergence: Convergence,
     /// The state of each analysed service then.
     pub views: Seq<View>,
 }

@@ -3,14 +3,15 @@
 ghost use Rattle.std.specs.Prelude.{◌≡◌, ◌&&◌, not};
 ghost use Rattle.std.specs.List.{list_any, list_all, zip};
 ghost use Rattle.pb_cmd_survive.specs.Acceptances.{is_stale};
-ghost use Rattle.pb_cmd_survive.specs.Judgements.{harms_view, harms, is_tolerable, is_excused, survives, are_current};
+ghost use Rattle.pb_cmd_survive.specs.Judgements.{harms_view, harms, is_tolerable, is_accepted_impact};
+ghost use Rattle.pb_cmd_survive.specs.Judgements.{survives, are_current};
 
 use crate::acceptances::{is_accepted, is_stale};
 use crate::criteria::Criteria;
+use crate::disconnecting::{disconnects, disconnects_view};
 use crate::failure::Failure;
 use crate::impact::Impact;
-use crate::parting::{parts, parts_view};
-use crate::verdict::{are_forests, is_healthy, is_settled};
+use crate::verdict::{are_forests, is_converged, is_healthy};
 use crate::view::View;
 use pb_accept::Acceptance;
 use pb_lan::Plan;
@@ -25,7 +26,7 @@ fn harms_view(
 ) -> bool
     ensures { result ≡ harms_view criteria acceptances.now failure (old.now, new.now) }
 {
-    parts_view(criteria, old, new) && !is_accepted(acceptances, failure, new.service)
+    disconnects_view(criteria, old, new) && !is_accepted(acceptances, failure, new.service)
 }
 
 /// Checks whether a failure disconnects some service and that is not accepted.
@@ -54,21 +55,21 @@ pub(crate) fn is_tolerable(
 ) -> bool
     ensures { result ≡ is_tolerable criteria acceptances.now base.now impact.now }
 {
-    is_settled(impact.rest)
+    is_converged(impact.convergence)
         && are_forests(impact.views.as_slice())
         && !harms(criteria, acceptances, base, impact)
 }
 
 /// Checks whether a failure is accepted: it disconnects a service, and is tolerable.
-pub(crate) fn is_excused(
+pub(crate) fn is_accepted_impact(
     criteria: Criteria,
     acceptances: &[Acceptance],
     base: &Impact,
     impact: &Impact,
 ) -> bool
-    ensures { result ≡ is_excused criteria acceptances.now base.now impact.now }
+    ensures { result ≡ is_accepted_impact criteria acceptances.now base.now impact.now }
 {
-    parts(criteria, base, impact) && is_tolerable(criteria, acceptances, base, impact)
+    disconnects(criteria, base, impact) && is_tolerable(criteria, acceptances, base, impact)
 }
 
 /// Checks whether each failure is tolerable.

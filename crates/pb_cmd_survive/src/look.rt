@@ -6,6 +6,7 @@ ghost use Rattle.pb_converge.specs.Enough.{HasEnoughMemory};
 ghost use Rattle.pb_lan.specs.Plans.{IsSound};
 ghost use Rattle.pb_cmd_survive.specs.Impacts.{IsImpactOn, IsStanding};
 ghost use Rattle.pb_lan.specs.LastShapes.{last_shape};
+ghost use Rattle.pb_cmd_survive.specs.Failures.{is_out};
 ghost use Rattle.pb_cmd_survive.specs.Views.{AreViews};
 
 use crate::drive::drive_into;
@@ -27,15 +28,17 @@ fn last_views(
     alloc: Global,
     plan: &Plan,
     tallies: &Tallies,
+    names: &[String],
     failure: Failure,
     services: &[u8],
 ) -> Result<Seq<View>, Memory>
     requires { IsSound plan.now }
     ensures enough { IfOk result (λ _. HasEnoughMemory tallies.now) }
-    ensures views { IfOk result (AreViews plan.now (last_shape plan.now tallies.now) failure services.now) }
+    ensures views { IfOk result (AreViews plan.now (last_shape plan.now tallies.now) (is_out plan.now names.now failure)
+        services.now) }
 {
     let shape = shape_of(alloc, plan, tallies)?;
-    views(alloc, plan, &shape, failure, services)
+    views(alloc, plan, &shape, names, failure, services)
 }
 
 /// Returns the impact of a failure on a network that is up, for the services with these numbers.
@@ -44,7 +47,8 @@ fn last_views(
 /// 802.1D-2004 clause 17). The ticks of the impact are those after the failure. With [`Failure::Nothing`] the impact is
 /// that of the network when its bridges had converged. If the plan gives the states of the ports, no bridge ticks: a
 /// disabled port is Discarding, and all others keep their state. The active links and the groups are those of the
-/// states at the end. No allocation failed before.
+/// states at the end. The customer ports of a bridge that fails, or was down before by its name, reach only themselves.
+/// No allocation failed before.
 ///
 /// # Errors
 ///
@@ -59,12 +63,19 @@ pub fn look_at(
     requires { IsStanding standing.now }
     ensures { IfOk result (IsImpactOn standing.now services.now failure) }
 {
-    let (net, rest) = drive_into(alloc, standing, failure)?;
+    let (net, convergence) = drive_into(alloc, standing, failure)?;
     let tallies = net.tallies()?;
-    let views = last_views(alloc, standing.plan, &tallies, failure, services)?;
+    let views = last_views(
+        alloc,
+        standing.plan,
+        &tallies,
+        standing.names,
+        failure,
+        services,
+    )?;
     Ok(Impact {
         failure,
-        rest,
+        convergence,
         views,
     })
 }

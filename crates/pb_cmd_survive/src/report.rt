@@ -2,23 +2,24 @@
 
 ghost use Rattle.std.specs.Prelude.{◌≡◌, ◌++◌, flat_map};
 ghost use Rattle.std.specs.Prelude.{string_bytes, IfOk, OnOk};
-ghost use Rattle.pb_cmd_survive.specs.Reports.{failure_text, rest_text, forest_text, head_line};
+ghost use Rattle.pb_cmd_survive.specs.Reports.{failure_text, convergence_text, forest_text, head_line};
 ghost use Rattle.pb_cmd_survive.specs.Reports.{whole_text, impact_text, calm_line};
-ghost use Rattle.pb_cmd_survive.specs.Reports.{report_text, mark_text, any_excused, ending_text};
+ghost use Rattle.pb_cmd_survive.specs.Reports.{report_text, mark_text, any_accepted, ending_text};
 ghost use Rattle.pb_cmd_survive.specs.Judgements.{survives};
 
 use crate::criteria::Criteria;
 use crate::failure::Failure;
 use crate::health::{put_calm, put_health};
 use crate::impact::Impact;
-use crate::judgement::{is_excused, survives};
+use crate::judgement::{is_accepted_impact, survives};
 use crate::service_lines::{put_loop, put_service, put_views};
 use crate::stale::put_stale;
-use crate::totals::{put_last, put_totals};
+use crate::surviving::put_last;
+use crate::totals::put_totals;
 use crate::verdict::{are_forests, is_left_out};
 use crate::view::View;
 use pb_accept::Acceptance;
-use pb_converge::Rest;
+use pb_converge::Convergence;
 use pb_frame::Memory;
 use pb_lan::Plan;
 use pb_names::{bridge_name, link_name};
@@ -44,13 +45,13 @@ pub fn put_failure(out: &mut String, plan: &Plan, failure: Failure) -> Result<()
 }
 
 /// Appends whether the bridges converged, and after how many ticks of each.
-fn put_rest(out: &mut String, rest: Rest) -> Result<(), Memory>
-    ensures { OnOk result (string_bytes out.new ≡ string_bytes out.old ++ rest_text rest) }
+fn put_convergence(out: &mut String, convergence: Convergence) -> Result<(), Memory>
+    ensures { OnOk result (string_bytes out.new ≡ string_bytes out.old ++ convergence_text convergence) }
 {
-    match rest {
-        Rest::Given => out.push_str("states given")?,
-        Rest::Settled(ticks) => write!(out, "settled ticks {ticks}")?,
-        Rest::Unsettled(ticks) => write!(out, "not settled ticks {ticks}")?,
+    match convergence {
+        Convergence::Given => out.push_str("states given")?,
+        Convergence::Converged(ticks) => write!(out, "converged ticks {ticks}")?,
+        Convergence::NotConverged(ticks) => write!(out, "not converged ticks {ticks}")?,
     }
     Ok(())
 }
@@ -73,7 +74,7 @@ fn put_head(out: &mut String, plan: &Plan, impact: &Impact) -> Result<(), Memory
 {
     put_failure(out, plan, impact.failure)?;
     out.push_str(": ")?;
-    put_rest(out, impact.rest)?;
+    put_convergence(out, impact.convergence)?;
     put_forest(out, impact.views.as_slice())?;
     out.push_str("\n")?;
     Ok(())
@@ -85,7 +86,7 @@ fn put_calm_line(out: &mut String, criteria: Criteria, impact: &Impact) -> Resul
 {
     put_calm(out, criteria)?;
     out.push_str(": ")?;
-    put_rest(out, impact.rest)?;
+    put_convergence(out, impact.convergence)?;
     put_forest(out, impact.views.as_slice())?;
     out.push_str("\n")?;
     Ok(())
@@ -119,7 +120,7 @@ fn put_mark(
     ensures { OnOk result (string_bytes out.new ≡ string_bytes out.old
         ++ mark_text criteria acceptances.now base.now impact.now) }
 {
-    if is_excused(criteria, acceptances, base, impact) {
+    if is_accepted_impact(criteria, acceptances, base, impact) {
         out.push_str("accepted ")?;
     }
     Ok(())
@@ -170,17 +171,15 @@ fn put_impacts(
 }
 
 /// Checks whether some failure is accepted.
-fn any_excused(
+fn any_accepted(
     criteria: Criteria,
     acceptances: &[Acceptance],
     base: &Impact,
     impacts: &[Impact],
 ) -> bool
-    ensures { result ≡ any_excused criteria acceptances.now base.now impacts.now }
+    ensures { result ≡ any_accepted criteria acceptances.now base.now impacts.now }
 {
-    impacts
-        .iter()
-        .any(|impact| is_excused(criteria, acceptances, base, impact))
+    impacts.iter().any(|impact| is_accepted_impact(criteria, acceptances, base, impact))
 }
 
 /// Appends the totals, the acceptances that are not needed, and the last line. Returns whether the network survives.
@@ -199,8 +198,8 @@ fn put_ending(
     put_totals(out, criteria, acceptances, base, impacts)?;
     put_stale(out, plan, criteria, acceptances, base, impacts)?;
     let survived = survives(criteria, acceptances, base, impacts);
-    let excused = any_excused(criteria, acceptances, base, impacts);
-    put_last(out, criteria, base, survived, excused)?;
+    let accepted = any_accepted(criteria, acceptances, base, impacts);
+    put_last(out, criteria, base, impacts, survived, accepted)?;
     Ok(survived)
 }
 
@@ -211,9 +210,10 @@ fn put_ending(
 /// whether it is healthy: the bridges converge, and each service has two ports or more, all connected, and no loop.
 /// Then each failure that does harm, or each one if `criteria.all` is set, has the same lines, with the services that
 /// it disconnects. A failure of which `acceptances` accept each disconnection has the word `accepted` before them. Last
-/// come the kinds of failures, the most ticks to convergence, how many failures do which harm, and the acceptances that
-/// are stale or were not tried. The last line is the verdict. It says that the network survives only if it is healthy
-/// and no failure disconnects a service without acceptance, leaves a loop, or keeps the bridges from converging.
+/// come the kinds of failures, the most ticks to convergence if the bridges converge after each failure, how many
+/// failures do which harm, and the acceptances that are stale or were not tried. The last line is the verdict. It says
+/// that the network survives, and which failures, only if it is healthy and no failure disconnects a service without
+/// acceptance, leaves a loop, or keeps the bridges from converging.
 /// `criteria` has the ports that count as disconnected, and whether something was down before, so that the lines speak
 /// of nothing else down.
 ///

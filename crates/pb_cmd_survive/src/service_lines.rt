@@ -4,10 +4,10 @@ ghost use Rattle.std.specs.Prelude.{◌≡◌, ◌<◌, ◌++◌, flat_map, leng
 ghost use Rattle.std.specs.Prelude.{string_bytes, OnOk};
 ghost use Rattle.std.specs.List.{zip};
 ghost use Rattle.pb_cmd_survive.specs.Reports.{group_text, later_text, groups_text, service_line, loop_line, lost_text};
-ghost use Rattle.pb_cmd_survive.specs.Reports.{cut_off_line, parting_line, view_text, no_site};
+ghost use Rattle.pb_cmd_survive.specs.Reports.{cut_off_line, disconnection_line, view_text, no_site};
 
 use crate::criteria::Criteria;
-use crate::parting::{is_lost, parts_view};
+use crate::disconnecting::{disconnects_view, is_lost};
 use crate::sites::Site;
 use crate::view::View;
 use pb_frame::Memory;
@@ -139,7 +139,7 @@ fn put_cut_off(
 }
 
 /// Appends how a service is disconnected: its groups, or the ports from which the requested port is cut off.
-fn put_parting(
+fn put_disconnection(
     out: &mut String,
     plan: &Plan,
     criteria: Criteria,
@@ -147,7 +147,7 @@ fn put_parting(
     new: &View,
 ) -> Result<(), Memory>
     ensures { OnOk result (string_bytes out.new ≡ string_bytes out.old
-        ++ parting_line plan.now criteria (old.now, new.now)) }
+        ++ disconnection_line plan.now criteria (old.now, new.now)) }
 {
     match criteria.from {
         None => put_service(out, plan, new),
@@ -167,8 +167,8 @@ fn put_view(
         ++ view_text plan.now criteria (old.now, new.now)) }
 {
     put_loop(out, plan, new)?;
-    if parts_view(criteria, old, new) {
-        put_parting(out, plan, criteria, old, new)?;
+    if disconnects_view(criteria, old, new) {
+        put_disconnection(out, plan, criteria, old, new)?;
     }
     Ok(())
 }

@@ -5,7 +5,7 @@ ghost use Rattle.pb_converge.specs.Falls.{HaveFallen};
 ghost use Rattle.pb_lan.specs.Plans.{IsSound};
 ghost use Rattle.pb_cmd_survive.specs.Impacts.{IsStanding, Raises};
 
-use pb_converge::{DownFault, DriveFault, Rest, copied, disables, fresh, settle, stand};
+use pb_converge::{Convergence, DownFault, DriveFault, converge, copied, disables, fresh, stand};
 use pb_lan::Plan;
 use pb_net::Net;
 use std::alloc::Global;
@@ -34,7 +34,7 @@ pub struct Standing<'a> {
     /// The limits on each convergence.
     pub patience: Patience,
     /// Whether the bridges converged, and after how many ticks of each.
-    pub rest: Rest,
+    pub convergence: Convergence,
     /// The network when they had converged.
     pub calm: Net,
     /// The network after 60 more ticks of each bridge.
@@ -56,14 +56,14 @@ fn bring_up<'a>(
         × IsStanding s) }
 {
     let mut net = net;
-    let rest = settle(alloc, &mut net, plan, patience.ticks, patience.events)?;
+    let convergence = converge(alloc, &mut net, plan, patience.ticks, patience.events)?;
     let mut up = copied(&net)?;
     stand(&mut up, plan, STANDING, patience.events)?;
     Ok(Standing {
         plan,
         names,
         patience,
-        rest,
+        convergence,
         calm: net,
         up,
     })

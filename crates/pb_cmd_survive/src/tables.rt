@@ -6,9 +6,9 @@ ghost use Rattle.pb_cmd_survive.specs.AcceptedTexts.{failure_key, accept_table, 
 ghost use Rattle.pb_cmd_survive.specs.AcceptedTexts.{accept_tables};
 
 use crate::criteria::Criteria;
+use crate::disconnecting::disconnects_view;
 use crate::failure::Failure;
 use crate::impact::Impact;
-use crate::parting::parts_view;
 use crate::view::View;
 use pb_frame::Memory;
 use pb_lan::Plan;
@@ -55,7 +55,7 @@ fn put_view_table(
     ensures { OnOk result (string_bytes out.new ≡ string_bytes out.old
         ++ view_table plan.now criteria failure (old.now, new.now)) }
 {
-    if parts_view(criteria, old, new) {
+    if disconnects_view(criteria, old, new) {
         put_table(out, plan, failure, new.service)?;
     }
     Ok(())

@@ -1,25 +1,25 @@
-//! The last lines of the report: what was checked, how many failures do which harm, and the verdict.
+//! What was checked, and how many failures do which harm.
 
-ghost use Rattle.std.specs.Prelude.{◌≡◌, ◌++◌, not, count_by, string_bytes, OnOk};
+ghost use Rattle.std.specs.Prelude.{◌≡◌, ◌++◌, ◌&&◌, not, count_by, length, nat_lt, string_bytes, OnOk};
 ghost use Rattle.pb_cmd_survive.specs.Reports.{kind_text, checked_line, ticks_of, slowest, has_converged};
-ghost use Rattle.pb_cmd_survive.specs.Reports.{ticks_line, converge_line, some_line, count_line, sparing_line};
-ghost use Rattle.pb_cmd_survive.specs.Reports.{parting_count_line, looping_line, unsettled_line};
-ghost use Rattle.pb_cmd_survive.specs.Reports.{totals_text, surviving_line, last_line, excused_line};
-ghost use Rattle.pb_cmd_survive.specs.Judgements.{harms, is_excused};
+ghost use Rattle.pb_cmd_survive.specs.Reports.{ticks_line, all_converged, converge_line, some_line, count_line};
+ghost use Rattle.pb_cmd_survive.specs.Reports.{not_disconnecting_line};
+ghost use Rattle.pb_cmd_survive.specs.Reports.{disconnecting_line, looping_line, not_converged_line};
+ghost use Rattle.pb_cmd_survive.specs.Reports.{totals_text, accepted_line};
+ghost use Rattle.pb_cmd_survive.specs.Judgements.{harms, is_accepted_impact};
 ghost use Rattle.pb_cmd_survive.specs.Failures.{is_link, is_bridge, is_pair};
-ghost use Rattle.pb_cmd_survive.specs.Verdicts.{is_settled, are_forests, parts};
-ghost use Rattle.std.specs.List.{list_any};
+ghost use Rattle.pb_cmd_survive.specs.Verdicts.{is_converged, are_forests, disconnects};
+ghost use Rattle.std.specs.List.{list_all};
 
 use crate::counted::put_counted;
 use crate::criteria::Criteria;
+use crate::disconnecting::disconnects;
 use crate::failure::Failure;
-use crate::health::put_unhealthy;
 use crate::impact::Impact;
-use crate::judgement::{harms, is_excused};
-use crate::parting::parts;
-use crate::verdict::{are_forests, is_healthy, is_settled};
+use crate::judgement::{harms, is_accepted_impact};
+use crate::verdict::{are_forests, is_converged};
 use pb_accept::Acceptance;
-use pb_converge::Rest;
+use pb_converge::Convergence;
 use pb_frame::Memory;
 
 /// Checks whether one link fails alone.
@@ -33,7 +33,7 @@ fn is_link(failure: Failure) -> bool
 }
 
 /// Checks whether a bridge fails.
-fn is_bridge(failure: Failure) -> bool
+pub(crate) fn is_bridge(failure: Failure) -> bool
     ensures { result ≡ is_bridge failure }
 {
     match failure {
@@ -43,7 +43,7 @@ fn is_bridge(failure: Failure) -> bool
 }
 
 /// Checks whether two links fail.
-fn is_pair(failure: Failure) -> bool
+pub(crate) fn is_pair(failure: Failure) -> bool
     ensures { result ≡ is_pair failure }
 {
     match failure {
@@ -107,22 +107,22 @@ fn put_checked(out: &mut String, impacts: &[Impact]) -> Result<(), Memory>
 }
 
 /// Returns the ticks of each bridge until they converged, or 0 if they did not.
-pub fn ticks_of(rest: Rest) -> u32
-    ensures { result ≡ ticks_of rest }
+pub fn ticks_of(convergence: Convergence) -> u32
+    ensures { result ≡ ticks_of convergence }
 {
-    match rest {
-        Rest::Given | Rest::Unsettled(_) => 0,
-        Rest::Settled(ticks) => ticks,
+    match convergence {
+        Convergence::Given | Convergence::NotConverged(_) => 0,
+        Convergence::Converged(ticks) => ticks,
     }
 }
 
 /// Checks whether the bridges ticked and converged.
-pub fn has_converged(rest: Rest) -> bool
-    ensures { result ≡ has_converged rest }
+pub fn has_converged(convergence: Convergence) -> bool
+    ensures { result ≡ has_converged convergence }
 {
-    match rest {
-        Rest::Given | Rest::Unsettled(_) => false,
-        Rest::Settled(_) => true,
+    match convergence {
+        Convergence::Given | Convergence::NotConverged(_) => false,
+        Convergence::Converged(_) => true,
     }
 }
 
@@ -132,16 +132,25 @@ fn slowest(impacts: &[Impact]) -> u32
 {
     let mut most = 0;
     for impact in impacts {
-        most = most.max(ticks_of(impact.rest));
+        most = most.max(ticks_of(impact.convergence));
     }
     most
 }
 
-/// Checks whether the bridges ticked and converged after some failure.
-fn any_converged(impacts: &[Impact]) -> bool
-    ensures { result ≡ list_any (λ o. has_converged o.rest) impacts.now }
+/// Checks whether the bridges ticked and converged after each failure.
+fn each_converged(impacts: &[Impact]) -> bool
+    ensures { result ≡ list_all (λ o. has_converged o.convergence) impacts.now }
 {
-    impacts.iter().any(|impact| has_converged(impact.rest))
+    impacts
+        .iter()
+        .all(|impact| has_converged(impact.convergence))
+}
+
+/// Checks whether something failed, and the bridges ticked and converged after each failure.
+fn all_converged(impacts: &[Impact]) -> bool
+    ensures { result ≡ all_converged impacts.now }
+{
+    0 < impacts.len() && each_converged(impacts)
 }
 
 /// Appends the most ticks until bridges converged.
@@ -154,11 +163,11 @@ fn put_ticks(out: &mut String, ticks: u32) -> Result<(), Memory>
     Ok(())
 }
 
-/// Appends the most ticks until bridges converged, if they did after some failure.
+/// Appends the most ticks until bridges converged, if they did after each failure, and something failed.
 fn put_converge(out: &mut String, impacts: &[Impact]) -> Result<(), Memory>
     ensures { OnOk result (string_bytes out.new ≡ string_bytes out.old ++ converge_line impacts.now) }
 {
-    if any_converged(impacts) {
+    if all_converged(impacts) {
         put_ticks(out, slowest(impacts))?;
     }
     Ok(())
@@ -183,22 +192,22 @@ fn put_count(out: &mut String, count: usize, all: usize, what: &str) -> Result<(
 }
 
 /// Returns how many of the failures are accepted.
-fn count_excused(
+fn count_accepted(
     criteria: Criteria,
     acceptances: &[Acceptance],
     base: &Impact,
     impacts: &[Impact],
 ) -> usize
-    ensures { result ≡ count_by (is_excused criteria acceptances.now base.now) impacts.now }
+    ensures { result ≡ count_by (is_accepted_impact criteria acceptances.now base.now) impacts.now }
 {
     impacts
         .iter()
-        .filter(|impact| is_excused(criteria, acceptances, base, impact))
+        .filter(|impact| is_accepted_impact(criteria, acceptances, base, impact))
         .count()
 }
 
 /// Returns how many of the failures disconnect a service and are not accepted.
-fn count_parting(
+fn count_disconnecting(
     criteria: Criteria,
     acceptances: &[Acceptance],
     base: &Impact,
@@ -213,12 +222,12 @@ fn count_parting(
 }
 
 /// Returns how many of the failures disconnect nothing.
-fn count_sparing(criteria: Criteria, base: &Impact, impacts: &[Impact]) -> usize
-    ensures { result ≡ count_by (λ o. not (parts criteria base.now o)) impacts.now }
+fn count_not_disconnecting(criteria: Criteria, base: &Impact, impacts: &[Impact]) -> usize
+    ensures { result ≡ count_by (λ o. not (disconnects criteria base.now o)) impacts.now }
 {
     impacts
         .iter()
-        .filter(|impact| !parts(criteria, base, impact))
+        .filter(|impact| !disconnects(criteria, base, impact))
         .count()
 }
 
@@ -233,30 +242,31 @@ fn count_looping(impacts: &[Impact]) -> usize
 }
 
 /// Returns after how many of the failures the bridges do not converge.
-fn count_unsettled(impacts: &[Impact]) -> usize
-    ensures { result ≡ count_by (λ o. not (is_settled o.rest)) impacts.now }
+fn count_not_converged(impacts: &[Impact]) -> usize
+    ensures { result ≡ count_by (λ o. not (is_converged o.convergence)) impacts.now }
 {
     impacts
         .iter()
-        .filter(|impact| !is_settled(impact.rest))
+        .filter(|impact| !is_converged(impact.convergence))
         .count()
 }
 
 /// Appends how many failures disconnect nothing.
-fn put_sparing(
+fn put_not_disconnecting(
     out: &mut String,
     criteria: Criteria,
     base: &Impact,
     impacts: &[Impact],
 ) -> Result<(), Memory>
-    ensures { OnOk result (string_bytes out.new ≡ string_bytes out.old ++ sparing_line criteria base.now impacts.now) }
+    ensures { OnOk result (string_bytes out.new ≡ string_bytes out.old
+        ++ not_disconnecting_line criteria base.now impacts.now) }
 {
-    let count = count_sparing(criteria, base, impacts);
+    let count = count_not_disconnecting(criteria, base, impacts);
     put_count(out, count, impacts.len(), "disconnect nothing")
 }
 
 /// Appends how many failures are accepted.
-fn put_excused(
+fn put_accepted(
     out: &mut String,
     criteria: Criteria,
     acceptances: &[Acceptance],
@@ -264,14 +274,14 @@ fn put_excused(
     impacts: &[Impact],
 ) -> Result<(), Memory>
     ensures { OnOk result (string_bytes out.new ≡ string_bytes out.old
-        ++ excused_line criteria acceptances.now base.now impacts.now) }
+        ++ accepted_line criteria acceptances.now base.now impacts.now) }
 {
-    let count = count_excused(criteria, acceptances, base, impacts);
+    let count = count_accepted(criteria, acceptances, base, impacts);
     put_count(out, count, impacts.len(), "are accepted")
 }
 
 /// Appends how many failures disconnect a service and are not accepted.
-fn put_parting_count(
+fn put_disconnecting(
     out: &mut String,
     criteria: Criteria,
     acceptances: &[Acceptance],
@@ -279,9 +289,9 @@ fn put_parting_count(
     impacts: &[Impact],
 ) -> Result<(), Memory>
     ensures { OnOk result (string_bytes out.new ≡ string_bytes out.old
-        ++ parting_count_line criteria acceptances.now base.now impacts.now) }
+        ++ disconnecting_line criteria acceptances.now base.now impacts.now) }
 {
-    let count = count_parting(criteria, acceptances, base, impacts);
+    let count = count_disconnecting(criteria, acceptances, base, impacts);
     put_count(out, count, impacts.len(), "disconnect a service")
 }
 
@@ -294,10 +304,10 @@ fn put_looping(out: &mut String, impacts: &[Impact]) -> Result<(), Memory>
 }
 
 /// Appends after how many failures the bridges do not converge.
-fn put_unsettled_count(out: &mut String, impacts: &[Impact]) -> Result<(), Memory>
-    ensures { OnOk result (string_bytes out.new ≡ string_bytes out.old ++ unsettled_line impacts.now) }
+fn put_not_converged_count(out: &mut String, impacts: &[Impact]) -> Result<(), Memory>
+    ensures { OnOk result (string_bytes out.new ≡ string_bytes out.old ++ not_converged_line impacts.now) }
 {
-    let count = count_unsettled(impacts);
+    let count = count_not_converged(impacts);
     put_count(out, count, impacts.len(), "do not converge")
 }
 
@@ -313,43 +323,11 @@ pub(crate) fn put_totals(
         ++ totals_text criteria acceptances.now base.now impacts.now) }
 {
     put_checked(out, impacts)?;
-    put_sparing(out, criteria, base, impacts)?;
+    put_not_disconnecting(out, criteria, base, impacts)?;
     put_converge(out, impacts)?;
-    put_excused(out, criteria, acceptances, base, impacts)?;
-    put_parting_count(out, criteria, acceptances, base, impacts)?;
+    put_accepted(out, criteria, acceptances, base, impacts)?;
+    put_disconnecting(out, criteria, acceptances, base, impacts)?;
     put_looping(out, impacts)?;
-    put_unsettled_count(out, impacts)?;
+    put_not_converged_count(out, impacts)?;
     Ok(())
-}
-
-/// Appends that the network survives every failure, or every one that is not accepted.
-fn put_surviving(out: &mut String, excused: bool) -> Result<(), Memory>
-    ensures { OnOk result (string_bytes out.new ≡ string_bytes out.old ++ surviving_line excused) }
-{
-    if excused {
-        out.push_str("survives every failure that is not accepted\n")?;
-    } else {
-        out.push_str("survives every single failure\n")?;
-    }
-    Ok(())
-}
-
-/// Appends the last line: that the network survives, or that it is not healthy with nothing down.
-pub(crate) fn put_last(
-    out: &mut String,
-    criteria: Criteria,
-    base: &Impact,
-    survived: bool,
-    excused: bool,
-) -> Result<(), Memory>
-    ensures { OnOk result (string_bytes out.new
-        ≡ string_bytes out.old ++ last_line criteria base.now survived excused) }
-{
-    if survived {
-        return put_surviving(out, excused);
-    }
-    if is_healthy(base) {
-        return Ok(());
-    }
-    put_unhealthy(out, criteria, base)
 }

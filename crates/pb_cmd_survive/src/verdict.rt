@@ -2,24 +2,24 @@
 
 ghost use Rattle.std.specs.Prelude.{◌≡◌, ◌==◌, ◌&&◌, not, length, nat_lt};
 ghost use Rattle.std.specs.List.{list_any, list_all};
-ghost use Rattle.pb_cmd_survive.specs.Verdicts.{is_settled, are_forests, is_apart, is_split, is_healthy_service};
+ghost use Rattle.pb_cmd_survive.specs.Verdicts.{is_converged, are_forests, is_apart, is_split, is_healthy_service};
 ghost use Rattle.pb_cmd_survive.specs.Verdicts.{is_healthy};
-ghost use Rattle.pb_cmd_survive.specs.Verdicts.{is_quiet, is_left_out};
+ghost use Rattle.pb_cmd_survive.specs.Verdicts.{is_harmless, is_left_out};
 
 use crate::criteria::Criteria;
+use crate::disconnecting::disconnects;
 use crate::impact::Impact;
-use crate::parting::parts;
 use crate::sites::Site;
 use crate::view::View;
-use pb_converge::Rest;
+use pb_converge::Convergence;
 
 /// Checks whether the bridges converged, or had nothing to decide.
-pub fn is_settled(rest: Rest) -> bool
-    ensures { result ≡ is_settled rest }
+pub fn is_converged(convergence: Convergence) -> bool
+    ensures { result ≡ is_converged convergence }
 {
-    match rest {
-        Rest::Given | Rest::Settled(_) => true,
-        Rest::Unsettled(_) => false,
+    match convergence {
+        Convergence::Given | Convergence::Converged(_) => true,
+        Convergence::NotConverged(_) => false,
     }
 }
 
@@ -63,21 +63,21 @@ pub(crate) fn is_healthy(base: &Impact) -> bool
     ensures { result ≡ is_healthy base.now }
 {
     let views = base.views.as_slice();
-    is_settled(base.rest) && 0 < views.len() && are_healthy(views)
+    is_converged(base.convergence) && 0 < views.len() && are_healthy(views)
 }
 
 /// Checks whether a failure is harmless: the bridges converge, no service has a loop, and none is disconnected.
-fn is_quiet(criteria: Criteria, base: &Impact, impact: &Impact) -> bool
-    ensures { result ≡ is_quiet criteria base.now impact.now }
+fn is_harmless(criteria: Criteria, base: &Impact, impact: &Impact) -> bool
+    ensures { result ≡ is_harmless criteria base.now impact.now }
 {
-    is_settled(impact.rest)
+    is_converged(impact.convergence)
         && are_forests(impact.views.as_slice())
-        && !parts(criteria, base, impact)
+        && !disconnects(criteria, base, impact)
 }
 
 /// Checks whether the report leaves a failure out: it is harmless, and not all failures are asked for.
 pub(crate) fn is_left_out(criteria: Criteria, base: &Impact, impact: &Impact) -> bool
     ensures { result ≡ is_left_out criteria base.now impact.now }
 {
-    !criteria.all && is_quiet(criteria, base, impact)
+    !criteria.all && is_harmless(criteria, base, impact)
 }

@@ -4,6 +4,7 @@ ghost use Rattle.std.specs.Prelude.{◌≡◌, ◌↔◌, IsTrue, IfOk};
 ghost use Rattle.pb_forest.specs.ServiceVids.{vid_numbered};
 ghost use Rattle.pb_lan.specs.Forests.{IsForest};
 ghost use Rattle.pb_lan.specs.Plans.{IsSound};
+ghost use Rattle.pb_cmd_survive.specs.Failures.{is_out};
 ghost use Rattle.pb_cmd_survive.specs.Views.{IsView, AreViews};
 
 use crate::failure::Failure;
@@ -40,14 +41,15 @@ fn view_of(
     alloc: Global,
     plan: &Plan,
     shape: &Shape,
+    names: &[String],
     failure: Failure,
     service: u8,
 ) -> Result<View, Memory>
     requires { IsSound plan.now }
-    ensures { IfOk result (IsView plan.now shape.now failure service) }
+    ensures { IfOk result (IsView plan.now shape.now (is_out plan.now names.now failure) service) }
 {
     let is_forest = is_forest(alloc, plan, shape, service)?;
-    let sites = groups(alloc, plan, shape, failure, service)?;
+    let sites = groups(alloc, plan, shape, names, failure, service)?;
     Ok(View {
         service,
         is_forest,
@@ -57,6 +59,9 @@ fn view_of(
 
 /// Returns the state of each of these services, by number, in the shape at the end of a failure.
 ///
+/// `names` are those of what is down before the failure: the customer ports of a bridge with such a name are alone, as
+/// those of a failed bridge.
+///
 /// # Errors
 ///
 /// `Memory` if an allocation failed.
@@ -64,15 +69,16 @@ pub fn views(
     alloc: Global,
     plan: &Plan,
     shape: &Shape,
+    names: &[String],
     failure: Failure,
     services: &[u8],
 ) -> Result<Seq<View>, Memory>
     requires { IsSound plan.now }
-    ensures { IfOk result (AreViews plan.now shape.now failure services.now) }
+    ensures { IfOk result (AreViews plan.now shape.now (is_out plan.now names.now failure) services.now) }
 {
     let mut views = Vec::with_capacity(alloc, services.len())?;
     for service in services {
-        views.push(view_of(alloc, plan, shape, failure, *service)?)?;
+        views.push(view_of(alloc, plan, shape, names, failure, *service)?)?;
     }
     Ok(Seq::from_vec(views))
 }

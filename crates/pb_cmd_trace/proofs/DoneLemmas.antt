@@ -6,7 +6,7 @@ use Rattle.pb_converge.proofs.DriveLemmas.{done-append, done-one}
 use Rattle.pb_converge.proofs.FewLemmas.{few-append, few-lower, few-none, few-onward, few-poll}
 use Rattle.pb_converge.proofs.LimitLemmas.{rested-done}
 use Rattle.pb_converge.specs.Drives.{is_onward, AreFew, HaveDone}
-use Rattle.pb_converge.specs.declared.rest.Rest.{Rest}
+use Rattle.pb_converge.specs.declared.convergence.Convergence.{Convergence}
 use Rattle.pb_lan.specs.Events.{place_of}
 use Rattle.pb_lan.specs.declared.event.Event.{Event}
 use Rattle.pb_lan.specs.declared.event.Event.TheVariants.{Poll}
@@ -108,7 +108,7 @@ journey-done plan entries (Some frame) old new text h =
     (entry-run plan h.entry (fate_round frame.number) h.between new h.back h.story) in
     (r.0, r.1)
 
-pub begun-run : (most : Option ℕ) (old new : NetView) (rest : Option Rest) → HasBegun most old new rest
+pub begun-run : (most : Option ℕ) (old new : NetView) (convergence : Option Convergence) → HasBegun most old new convergence
     → HasRun (unwrap_or most 0) 0 old new
-begun-run (Some ticks) old new rest h = rested-done ticks 1000000000 h.0 old new h.1
-begun-run None old new rest h = ([], h.0, few-none 0 0 0)
+begun-run (Some ticks) old new convergence h = rested-done ticks 1000000000 h.0 old new h.1
+begun-run None old new convergence h = ([], h.0, few-none 0 0 0)

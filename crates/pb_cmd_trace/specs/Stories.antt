@@ -14,8 +14,8 @@ use Rattle.pb_net.specs.declared.did.Did.TheVariants.{Idle, Done}
 use Rattle.pb_net.specs.declared.fault.NetFault.TheVariants.{NoSuch}
 use Rattle.pb_relay.specs.Protocol.{spanning_tree}
 use Rattle.pb_step_script.specs.Answers.{number_in}
-use Rattle.pb_converge.specs.Drives.{HasDrained, HasRested}
-use Rattle.pb_converge.specs.declared.rest.Rest.{Rest}
+use Rattle.pb_converge.specs.Drives.{HasDrained, EndsAs}
+use Rattle.pb_converge.specs.declared.convergence.Convergence.{Convergence}
 use Rattle.pb_cmd_step.specs.Steps.{newest_at}
 use Rattle.pb_cmd_trace.specs.Walks.{HasWalked}
 use Rattle.pb_cmd_trace.specs.declared.entry.Entry.{Entry}
@@ -31,9 +31,9 @@ use Rattle.pb_cmd_trace.specs.declared.walk.Course.{Course}
 use Rattle.pb_cmd_trace.specs.declared.walk.Course.TheVariants.{Ended, GoesRound}
 
 -- the bridges converged first within so many ticks of each, if that was requested
-abbrev pub HasBegun : Option ℕ → NetView → NetView → Option Rest → Type 0
-HasBegun (Some ticks) old new rest = (end : Rest) × HasRested ticks 1000000000 end old new × (rest ≡ Some end)
-HasBegun None old new rest = (new ≡ old) × (rest ≡ None)
+abbrev pub HasBegun : Option ℕ → NetView → NetView → Option Convergence → Type 0
+HasBegun (Some ticks) old new convergence = (end : Convergence) × EndsAs ticks 1000000000 end old new × (convergence ≡ Some end)
+HasBegun None old new convergence = (new ≡ old) × (convergence ≡ None)
 
 -- the number of an injected frame among those of its port
 abbrev pub entry_number : Step → ℕ

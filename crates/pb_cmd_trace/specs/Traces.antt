@@ -2,8 +2,8 @@
 use Rattle.std.specs.Prelude.{◌≡◌, ℕ, List, [], ◌++◌, Option, Some, None, flat_map}
 use Rattle.std.specs.Io.KnownBytes.{Appends, Keeps}
 use Rattle.pb_converge.specs.Falls.{IsRefused}
-use Rattle.pb_converge.specs.Rests.{rest_line}
-use Rattle.pb_converge.specs.declared.rest.Rest.{Rest}
+use Rattle.pb_converge.specs.Convergences.{convergence_line}
+use Rattle.pb_converge.specs.declared.convergence.Convergence.{Convergence}
 use Rattle.pb_lan.specs.declared.plan.Plan.{Plan}
 use Rattle.pb_lan.specs.declared.record.Record.{Record}
 use Rattle.pb_report.specs.PlanFiles.{IsToldBy}
@@ -23,14 +23,14 @@ abbrev pub end_lines : Plan → Record → Option FrameId → List ℕ
 end_lines plan rec round = round_line plan rec round ++ summary_line plan rec
 
 -- whether the bridges converged first, if that was requested
-abbrev pub head_text : Option Rest → List ℕ
+abbrev pub head_text : Option Convergence → List ℕ
 head_text None = []
-head_text (Some rest) = rest_line rest
+head_text (Some convergence) = convergence_line convergence
 
 -- whether the bridges converged, the lines of the reports, and the last lines
 abbrev pub trace_text : Plan → TraceReport → List ℕ
 trace_text plan report =
-    head_text report.rest ++ flat_map (line_text plan) report.lines ++ end_lines plan report.record report.round
+    head_text report.convergence ++ flat_map (line_text plan) report.lines ++ end_lines plan report.record report.round
 
 -- the text of a trace in the network of the plan
 pub record IsTrace (plan : Plan) (asked : Asked) (text : List ℕ) : Type 0 where

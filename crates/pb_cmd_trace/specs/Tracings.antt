@@ -19,13 +19,13 @@ use Rattle.pb_cmd_trace.specs.declared.tracing.Tracing.TheVariants.{Told, NoPort
 -- The bridges converge if that is requested, then the frames go one after the other. The record before the first frame and
 -- the last one, which has all steps, are lawful, and no allocation failed in the latter.
 pub record IsReportFrom (plan : Plan) (asked : Asked) (start : NetView) (report : TraceReport) : Type 0 where
-  pub rested : NetView
-  pub begun : HasBegun asked.settle start rested report.rest
-  pub planned : rested.plan ≡ plan
-  pub lawful : IsLawfulRecord spanning_tree plan rested.rec
-  pub shape : report.shape ≡ last_shape plan rested.rec
+  pub ready : NetView
+  pub begun : HasBegun asked.settle start ready report.convergence
+  pub planned : ready.plan ≡ plan
+  pub lawful : IsLawfulRecord spanning_tree plan ready.rec
+  pub shape : report.shape ≡ last_shape plan ready.rec
   pub last : NetView
-  pub stories : HasJourneyed plan asked.entries.now (journey_told report.round) rested last report.lines
+  pub stories : HasJourneyed plan asked.entries.now (journey_told report.round) ready last report.lines
   pub counted : IsLawfulRecord spanning_tree plan last.rec
   pub enough : HasEnoughMemory last.rec
   pub record_is : report.record ≡ last.rec

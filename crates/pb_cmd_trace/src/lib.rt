@@ -4,6 +4,7 @@
 #![tactic(auto)]
 
 mod asked;
+mod beginning;
 mod end;
 mod entry;
 mod following;
@@ -14,7 +15,6 @@ mod names;
 mod onward;
 mod places;
 mod receipt;
-mod rests;
 mod round;
 mod stations;
 mod summary;
@@ -28,7 +28,7 @@ pub use end::TraceEnd;
 pub use entry::Entry;
 pub use lines::TraceLine;
 pub use onward::Onward;
-pub use pb_converge::{DownFault, Rest};
+pub use pb_converge::{Convergence, DownFault};
 pub use round::FrameId;
 pub use trace::run_trace;
 pub use tracing::{TraceReport, Tracing, trace_plan};

@@ -15,7 +15,7 @@ use crate::round::{FrameId, put_round};
 use crate::summary::put_summary;
 use crate::telling::put_lines;
 use crate::tracing::{TraceReport, Tracing, trace_plan};
-use pb_converge::{DriveFault, Rest, fault_of, put_rest};
+use pb_converge::{Convergence, DriveFault, fault_of, put_convergence};
 use pb_frame::Memory;
 use pb_lan::{Plan, Record};
 use pb_messages::{CommandFault, write_whole};
@@ -25,12 +25,12 @@ use std::alloc::Global;
 use std::io::Write;
 
 /// Appends whether the bridges converged first, if that was requested.
-fn put_head(out: &mut String, rest: Option<Rest>) -> Result<(), Memory>
-    ensures { OnOk result (string_bytes out.new ≡ string_bytes out.old ++ head_text rest) }
+fn put_head(out: &mut String, convergence: Option<Convergence>) -> Result<(), Memory>
+    ensures { OnOk result (string_bytes out.new ≡ string_bytes out.old ++ head_text convergence) }
 {
-    match rest {
+    match convergence {
         None => Ok(()),
-        Some(rest) => put_rest(out, rest),
+        Some(convergence) => put_convergence(out, convergence),
     }
 }
 
@@ -61,7 +61,7 @@ fn put_report(
     requires lawful { IsLawfulRecord spanning_tree plan.now report.now.record }
     ensures { OnOk result (string_bytes out.new ≡ string_bytes out.old ++ trace_text plan.now report.now) }
 {
-    put_head(out, report.rest)?;
+    put_head(out, report.convergence)?;
     put_lines(alloc, out, plan, report.lines.as_slice())?;
     put_end(alloc, out, plan, &report.record, report.round)
 }
@@ -121,9 +121,9 @@ fn write_trace<W: Write>(
 ///
 /// Each of `asked.downs` names a link, a bridge, or a port to another bridge as `BRIDGE:PORT`, which is disabled first,
 /// as [`disables`] describes. If `asked.settle` is given and the bridges run the rapid spanning tree (IEEE 802.1D-2004
-/// clause 17), they converge then, within so many ticks of each: the first line is `settled yes ticks N` or `settled no
-/// ticks N`. Each frame is injected at its customer port when the one before it has gone as far as it goes. Its lines
-/// are
+/// clause 17), they converge then, within so many ticks of each: the first line is `converged ticks N` or
+/// `not converged ticks N`. Each frame is injected at its customer port when the one before it has gone as far as it
+/// goes. Its lines are
 ///
 /// - `in HEX: polled PORT K` for the injected frame;
 /// - `BRIDGE N from NAME, ..` for each bridge that received it: service and priority, what was learnt, whether the

@@ -13,11 +13,11 @@ ghost use Rattle.pb_relay.specs.Protocol.{spanning_tree};
 ghost use Rattle.pb_cmd_trace.specs.Tracings.{EndsTracing, IsTracing, IsTracingFault};
 
 use crate::asked::Asked;
+use crate::beginning::begin;
 use crate::journey::{Journey, travel};
 use crate::lines::TraceLine;
-use crate::rests::begin;
 use crate::round::FrameId;
-use pb_converge::{DownFault, DriveFault, Rest, check_memory, copied, disables, shape_of};
+use pb_converge::{Convergence, DownFault, DriveFault, check_memory, copied, disables, shape_of};
 use pb_frame::{Memory, Seq};
 use pb_lan::{Place, Plan, Record, Shape};
 use pb_net::Net;
@@ -27,7 +27,7 @@ use std::alloc::Global;
 #[derive(Debug, Drop)]
 pub struct TraceReport {
     /// Whether the bridges converged before the first frame, if that was requested.
-    pub rest: Option<Rest>,
+    pub convergence: Option<Convergence>,
     /// The states of all ports before the first frame.
     pub shape: Shape,
     /// The reports, in order.
@@ -97,7 +97,7 @@ fn follow_all(
     ensures err { IfErr result (λ fault.
         IsCaused (unwrap_or asked.now.settle 0) (length asked.now.entries.now) 0 1000000 fault net) }
 {
-    let rest = begin(alloc, plan, &mut net, asked.settle)?;
+    let convergence = begin(alloc, plan, &mut net, asked.settle)?;
     steps_are_lawful(&net);
     let shape = shape_in(alloc, plan, &net)?;
     let mut lines = Vec::new(alloc);
@@ -105,7 +105,7 @@ fn follow_all(
         Journey::Told(round) => {
             let record = record_of(alloc, net)?;
             Ok(Tracing::Told(TraceReport {
-                rest,
+                convergence,
                 shape,
                 lines: Seq::from_vec(lines),
                 round,

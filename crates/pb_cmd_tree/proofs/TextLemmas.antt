@@ -6,7 +6,7 @@ use Rattle.std.proofs.lemmas.List.{drop_all, length-map}
 use Rattle.std.specs.Fmt.{decimal}
 use Rattle.pb_frame.proofs.Lists.{Some-injective, first-finds, eqb-refl}
 use Rattle.pb_frame.proofs.Things.{thing_within, from_here}
-use Rattle.pb_converge.specs.Rests.{IsRestIn}
+use Rattle.pb_converge.specs.Convergences.{IsConvergenceIn}
 use Rattle.pb_lan.specs.LastShapes.{last_shape}
 use Rattle.pb_lan.specs.Records.{IsLawfulRecord}
 use Rattle.pb_lan.specs.declared.plan.Plan.{Plan}
@@ -27,8 +27,8 @@ use Rattle.pb_rstp.specs.declared.port.Port.{Port}
 use Rattle.pb_rstp.specs.declared.role.Role.{Role}
 use Rattle.pb_cmd_tree.specs.TreeTexts.{designated_at, port_words, port_line, IsServiceTextAt, AreServiceTexts}
 use Rattle.pb_cmd_tree.specs.TreeTexts.{IsGivenText, IsProtocolText, IsTreeText}
-use Rattle.pb_converge.specs.declared.rest.Rest.{Rest}
-use Rattle.pb_converge.specs.declared.rest.Rest.TheVariants.{Given, Settled, Unsettled}
+use Rattle.pb_converge.specs.declared.convergence.Convergence.{Convergence}
+use Rattle.pb_converge.specs.declared.convergence.Convergence.TheVariants.{Given, Converged, NotConverged}
 
 -- the machine of a bridge's steps is the one that the network holds, if the bridges run the protocol
 pub machine_is : (plan : Plan) (n : ℕ) (steps : List Step) (machine : Machine) → plan.spanning ≡ Rstp
@@ -129,20 +129,21 @@ item_is [] k x h = cc
 item_is (y ∷ xs) zero x h = sym (Some-injective h)
 item_is (y ∷ xs) (suc k) x h = item_is xs k x h
 
-pub protocol_tree : (plan : Plan) (rec : Record) (spanning : Spanning) (rest : Rest) (text : List ℕ)
-    → IsRestIn spanning rest → spanning ≡ Rstp → IsProtocolText plan rec rest text → IsTreeText plan rec rest text
+pub protocol_tree : (plan : Plan) (rec : Record) (spanning : Spanning) (convergence : Convergence) (text : List ℕ)
+    → IsConvergenceIn spanning convergence → spanning ≡ Rstp → IsProtocolText plan rec convergence text
+    → IsTreeText plan rec convergence text
 protocol_tree plan rec Rstp Given text fits e t = absurd fits
-protocol_tree plan rec Rstp (Settled ticks) text fits e t = t
-protocol_tree plan rec Rstp (Unsettled ticks) text fits e t = t
-protocol_tree plan rec Fixed rest text fits e t = cc
+protocol_tree plan rec Rstp (Converged ticks) text fits e t = t
+protocol_tree plan rec Rstp (NotConverged ticks) text fits e t = t
+protocol_tree plan rec Fixed convergence text fits e t = cc
 
-pub given_tree : (plan : Plan) (rec : Record) (spanning : Spanning) (rest : Rest) (text : List ℕ)
-    → IsRestIn spanning rest → spanning ≡ Fixed → IsGivenText plan (last_shape plan rec) text
-    → IsTreeText plan rec rest text
+pub given_tree : (plan : Plan) (rec : Record) (spanning : Spanning) (convergence : Convergence) (text : List ℕ)
+    → IsConvergenceIn spanning convergence → spanning ≡ Fixed → IsGivenText plan (last_shape plan rec) text
+    → IsTreeText plan rec convergence text
 given_tree plan rec Fixed Given text fits e t = t
-given_tree plan rec Fixed (Settled ticks) text fits e t = absurd fits
-given_tree plan rec Fixed (Unsettled ticks) text fits e t = absurd fits
-given_tree plan rec Rstp rest text fits e t = cc
+given_tree plan rec Fixed (Converged ticks) text fits e t = absurd fits
+given_tree plan rec Fixed (NotConverged ticks) text fits e t = absurd fits
+given_tree plan rec Rstp convergence text fits e t = cc
 
 -- the record at the end is lawful for the plan of the network
 pub lawful_end : (plan : Plan) (end : NetView) (rec : Record) → end.plan ≡ plan → rec ≡ end.rec

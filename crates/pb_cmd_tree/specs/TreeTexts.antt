@@ -18,7 +18,7 @@ use Rattle.pb_lan.specs.declared.record.Record.{Record}
 use Rattle.pb_lan.specs.declared.shape.PortState.{PortState}
 use Rattle.pb_lan.specs.declared.shape.Rooted.{Rooted}
 use Rattle.pb_lan.specs.declared.shape.Shape.{Shape}
-use Rattle.pb_converge.specs.Rests.{rest_line}
+use Rattle.pb_converge.specs.Convergences.{convergence_line}
 use Rattle.pb_names.specs.Names.{bridge_name, link_name, role_word, state_word}
 use Rattle.pb_names.specs.Places.{link_at}
 use Rattle.pb_report.specs.ForestTexts.{IsForestText}
@@ -28,8 +28,8 @@ use Rattle.pb_rstp.specs.Readings.{root_of, stored_at, roles_of}
 use Rattle.pb_rstp.specs.declared.port.Port.{Port}
 use Rattle.pb_rstp.specs.declared.role.Role.{Role}
 use Rattle.pb_rstp.specs.declared.role.Role.TheVariants.{Disabled, Root, Designated, Alternate, Backup}
-use Rattle.pb_converge.specs.declared.rest.Rest.{Rest}
-use Rattle.pb_converge.specs.declared.rest.Rest.TheVariants.{Given, Settled, Unsettled}
+use Rattle.pb_converge.specs.declared.convergence.Convergence.{Convergence}
+use Rattle.pb_converge.specs.declared.convergence.Convergence.TheVariants.{Given, Converged, NotConverged}
 use Rattle.pb_cmd_tree.specs.Names.{id_name, link_name_at, path_cost_at}
 
 -- another port is the Designated port of the port's link
@@ -137,13 +137,13 @@ pub record IsGivenText (plan : Plan) (shape : Shape) (text : List ℕ) : Type 0 
   pub text_is : text ≡ given_lines plan shape ++ forest ++ services
 
 -- the text if the bridges run the rapid spanning tree
-pub record IsProtocolText (plan : Plan) (rec : Record) (rest : Rest) (text : List ℕ) : Type 0 where
+pub record IsProtocolText (plan : Plan) (rec : Record) (convergence : Convergence) (text : List ℕ) : Type 0 where
   pub forest : List ℕ
   pub is_forest : IsForestText plan (last_shape plan rec) forest
-  pub text_is : text ≡ rest_line rest ++ protocol_lines plan rec ++ forest
+  pub text_is : text ≡ convergence_line convergence ++ protocol_lines plan rec ++ forest
 
 -- the text for the network at the end of a record
-abbrev pub IsTreeText : Plan → Record → Rest → List ℕ → Type 0
+abbrev pub IsTreeText : Plan → Record → Convergence → List ℕ → Type 0
 IsTreeText plan rec Given text = IsGivenText plan (last_shape plan rec) text
-IsTreeText plan rec (Settled ticks) text = IsProtocolText plan rec (Settled ticks) text
-IsTreeText plan rec (Unsettled ticks) text = IsProtocolText plan rec (Unsettled ticks) text
+IsTreeText plan rec (Converged ticks) text = IsProtocolText plan rec (Converged ticks) text
+IsTreeText plan rec (NotConverged ticks) text = IsProtocolText plan rec (NotConverged ticks) text

@@ -12,8 +12,8 @@ use Rattle.pb_net.specs.Answers.{NetView}
 use Rattle.pb_relay.specs.Protocol.{spanning_tree}
 use Rattle.pb_report.specs.PlanFiles.{IsToldBy}
 use Rattle.pb_report.specs.Refusals.{PrintsRefusal}
-use Rattle.pb_converge.specs.Drives.{HasRested, ReachesLimit}
-use Rattle.pb_converge.specs.declared.rest.Rest.{Rest}
+use Rattle.pb_converge.specs.Drives.{EndsAs, ReachesLimit}
+use Rattle.pb_converge.specs.declared.convergence.Convergence.{Convergence}
 use Rattle.pb_cmd_tree.specs.TreeTexts.{IsTreeText}
 use Rattle.pb_cmd_tree.specs.declared.end.TreeEnd.{TreeEnd}
 use Rattle.pb_cmd_tree.specs.declared.end.TreeEnd.TheVariants.{Told, Refused, NoDown}
@@ -22,12 +22,12 @@ use Rattle.pb_cmd_tree.specs.declared.end.TreeEnd.TheVariants.{Told, Refused, No
 -- which no allocation failed
 pub record AreTreesFrom (plan : Plan) (ticks : ℕ) (fallen : NetView) (text : List ℕ) : Type 0 where
   pub last : NetView
-  pub rest : Rest
-  pub rested : HasRested ticks 1000000000 rest fallen last
+  pub convergence : Convergence
+  pub ends : EndsAs ticks 1000000000 convergence fallen last
   pub planned : last.plan ≡ plan
   pub lawful : IsLawfulRecord spanning_tree plan last.rec
   pub enough : HasEnoughMemory last.rec
-  pub trees : IsTreeText plan last.rec rest text
+  pub trees : IsTreeText plan last.rec convergence text
 
 -- what the names disable is disabled first
 pub record AreTrees (plan : Plan) (downs : List (String Global)) (ticks : ℕ) (text : List ℕ) : Type 0 where

@@ -16,7 +16,8 @@ use crate::given::put_given;
 use crate::protocol::put_protocol;
 use crate::services::put_services;
 use pb_converge::{
-    DownFault, DriveFault, Rest, disables, fault_of, fresh, put_rest, settle, shape_of,
+    Convergence, DownFault, DriveFault, converge, disables, fault_of, fresh, put_convergence,
+    shape_of,
 };
 use pb_frame::Memory;
 use pb_lan::{Plan, Spanning};
@@ -65,7 +66,7 @@ fn put_planned(
 }
 
 /// Drives a network to convergence, and appends its trees.
-fn put_rested(
+fn put_converged(
     alloc: Global,
     out: &mut String,
     plan: &Plan,
@@ -78,14 +79,14 @@ fn put_rested(
         × AreTreesFrom plan.now ticks net text) }
     ensures err { IfErr result (λ fault. IsCaused ticks 0 0 1000000000 fault net) }
 {
-    let rest = settle(alloc, &mut net, plan, ticks, MOST_EVENTS)?;
+    let convergence = converge(alloc, &mut net, plan, ticks, MOST_EVENTS)?;
     match plan.spanning {
         Spanning::Fixed => {
             let tallies = net.tallies()?;
             Ok(put_planned(alloc, out, plan, &tallies)?)
         }
         Spanning::Rstp => {
-            put_rest(out, rest)?;
+            put_convergence(out, convergence)?;
             put_protocol(out, plan, &net)?;
             let tallies = net.tallies()?;
             Ok(put_last_forest(alloc, out, plan, &tallies)?)
@@ -111,7 +112,7 @@ fn put_trees_with_downs(
     match disables(alloc, &mut net, plan, downs)? {
         Some(fault) => Ok(Some(fault)),
         None => {
-            put_rested(alloc, out, plan, net, ticks)?;
+            put_converged(alloc, out, plan, net, ticks)?;
             Ok(None)
         }
     }
@@ -153,14 +154,14 @@ fn print_trees<W: Write>(
 ///
 /// If the bridges run the rapid spanning tree (IEEE 802.1D-2004 clause 17), the lines are
 ///
-/// - `settled yes ticks N` or `settled no ticks N`;
+/// - `converged ticks N` or `not converged ticks N`;
 /// - for each bridge `bridge NAME root NAME cost N`, followed by ` port N` if it has a Root port, and then for each of
 ///   its ports to another bridge `port BRIDGE N link NAME ROLE STATE cost N from BRIDGE`: the port's path cost, and the
 ///   Designated bridge of its link;
 /// - for the states at the end `forest yes`, or `forest no` and a line `loop NAME` for each service whose active links
 ///   form a loop.
 ///
-/// If the plan gives the states, there is no line `settled`, a bridge's line is `bridge NAME`, and a port's is `port
+/// If the plan gives the states, the first line is left out, a bridge's line is `bridge NAME`, and a port's is `port
 /// BRIDGE N link NAME STATE`. After the forest come lines `service NAME bridge NAME up LINK depth N`, one for each
 /// service without a loop and each bridge below a root of its tree.
 ///

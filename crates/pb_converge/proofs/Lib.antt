@@ -5,6 +5,7 @@ pub mod TickLemmas
 pub mod LookLemmas
 pub mod FallLemmas
 pub mod LimitLemmas
-pub mod RestLemmas
+pub mod EndLemmas
+pub mod TreeLemmas
 pub mod MachineLemmas
 pub mod RecurrenceLemmas

@@ -10,13 +10,13 @@ use Rattle.pb_converge.proofs.DriveLemmas.{at_limit, done-append, driven-gone}
 use Rattle.pb_converge.proofs.FewLemmas.{few-append, few-first, few-lower, few-none}
 use Rattle.pb_converge.proofs.TickLemmas.{driven-rounds}
 use Rattle.pb_converge.specs.Drives.{is_onward, AreFew, HaveDone, HasBeenDriven, HasBroken, HasFailed, HasStopped}
-use Rattle.pb_converge.specs.Drives.{IsAtEnd, IsCaused, IsReason, HasRested, ReachesLimit}
+use Rattle.pb_converge.specs.Drives.{IsAtEnd, IsCaused, IsReason, EndsAs, ReachesLimit}
 use Rattle.pb_converge.specs.Enough.{HasEnoughMemory}
-use Rattle.pb_converge.specs.Rests.{fault_of}
+use Rattle.pb_converge.specs.Convergences.{fault_of}
 use Rattle.pb_converge.specs.declared.fault.DriveFault.{DriveFault}
 use Rattle.pb_converge.specs.declared.fault.DriveFault.TheVariants.{Memory, Steps, Events}
-use Rattle.pb_converge.specs.declared.rest.Rest.{Rest}
-use Rattle.pb_converge.specs.declared.rest.Rest.TheVariants.{Given, Settled, Unsettled}
+use Rattle.pb_converge.specs.declared.convergence.Convergence.{Convergence}
+use Rattle.pb_converge.specs.declared.convergence.Convergence.TheVariants.{Given, Converged, NotConverged}
 
 -- a reason to end early after some events is a cause, if no allocation failed in them
 by_reason : (ticks most count : ℕ) (fault : DriveFault) (old new : NetView) → HasBeenDriven ticks count old new
@@ -166,11 +166,11 @@ at_most most rounds old new (inr r) =
     omega (arith, whole)
 
 -- the events until convergence
-pub rested-done : (most events : ℕ) (rest : Rest) (old new : NetView) → HasRested most events rest old new
+pub rested-done : (most events : ℕ) (rest : Convergence) (old new : NetView) → EndsAs most events rest old new
     → (es : List Event) × HaveDone old es new × AreFew most 0 0 es
 rested-done most events Given old new h = ([], h.1, few-none most 0 0)
-rested-done most events (Settled ticks) old new h =
+rested-done most events (Converged ticks) old new h =
     rounds-done most ticks h.3.count old new h.2 (driven-rounds ticks h.3.count old new h.3.rounds)
-rested-done most events (Unsettled ticks) old new (by_protocol, at, rounds, gone, at_end, unsettled) =
+rested-done most events (NotConverged ticks) old new (by_protocol, at, rounds, gone, at_end, not_converged) =
     rounds-done most rounds gone.count old new (at_most most rounds old new at_end)
     (driven-rounds rounds gone.count old new gone.rounds)

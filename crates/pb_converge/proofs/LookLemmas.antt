@@ -1,12 +1,12 @@
--- Whether the bridges were settled after the last two rounds.
+-- Whether the bridges had converged after the last two rounds.
 use Rattle.std.proofs.Common.{◌≡◌, ◌⊎◌, inl, inr, ◌+◌, ◌-◌, ◌&&◌, ℕ, Bool, true, false, Some, refl, sym, subst, arith}
 use Rattle.pb_net.specs.Answers.{NetView}
-use Rattle.pb_relay.specs.Settled.{TellsSettled}
-use Rattle.pb_converge.specs.Drives.{AreRounds, IsRound, HasLooked, WasUnsettled}
+use Rattle.pb_relay.specs.Settled.{TellsConverged}
+use Rattle.pb_converge.specs.Drives.{AreRounds, IsRound, HasLooked, HadNotConverged}
 
 -- one more round after some rounds, with what the looks before and after it returned
 pub looked-more : (ticks a b : ℕ) (before after : Bool) (old mid new : NetView) → AreRounds ticks a old mid
-    → IsRound b mid new → TellsSettled mid.plan mid.rec (Some before) → TellsSettled new.plan new.rec (Some after)
+    → IsRound b mid new → TellsConverged mid.plan mid.rec (Some before) → TellsConverged new.plan new.rec (Some after)
     → HasLooked ((ticks + 1) - 1) before after old new
 looked-more ticks a b before after old mid new rs r first second =
     let e : (ticks + 1) - 1 ≡ ticks = omega arith in
@@ -22,18 +22,18 @@ looked-more ticks a b before after old mid new rs r first second =
 
 -- both looks returned true
 pub looked-twice : (ticks a b : ℕ) (before after : Bool) (old mid new : NetView) → AreRounds ticks a old mid
-    → IsRound b mid new → TellsSettled mid.plan mid.rec (Some before) → TellsSettled new.plan new.rec (Some after)
+    → IsRound b mid new → TellsConverged mid.plan mid.rec (Some before) → TellsConverged new.plan new.rec (Some after)
     → before ≡ true → after ≡ true → HasLooked ((ticks + 1) - 1) true true old new
 looked-twice ticks a b before after old mid new rs r first second f s =
-    let one = subst (λ x. TellsSettled mid.plan mid.rec (Some x)) f first in
-    let two = subst (λ x. TellsSettled new.plan new.rec (Some x)) s second in
+    let one = subst (λ x. TellsConverged mid.plan mid.rec (Some x)) f first in
+    let two = subst (λ x. TellsConverged new.plan new.rec (Some x)) s second in
     looked-more ticks a b true true old mid new rs r one two
 
 -- one of the two looks returned false, for the loop of rounds
-pub unsettled-more : (ticks a b : ℕ) (before after : Bool) (old mid new : NetView) → AreRounds ticks a old mid
-    → IsRound b mid new → TellsSettled mid.plan mid.rec (Some before) → TellsSettled new.plan new.rec (Some after)
-    → (before && after) ≡ false → WasUnsettled (ticks + 1) old new
-unsettled-more ticks a b before after old mid new rs r first second e =
+pub not_converged-more : (ticks a b : ℕ) (before after : Bool) (old mid new : NetView) → AreRounds ticks a old mid
+    → IsRound b mid new → TellsConverged mid.plan mid.rec (Some before) → TellsConverged new.plan new.rec (Some after)
+    → (before && after) ≡ false → HadNotConverged (ticks + 1) old new
+not_converged-more ticks a b before after old mid new rs r first second e =
     (before, after, looked-more ticks a b before after old mid new rs r first second, e)
 
 pub not_both : (a b : Bool) → ((a ≡ true) × (b ≡ false)) ⊎ (a ≡ false) → (a && b) ≡ false

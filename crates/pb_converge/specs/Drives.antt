@@ -10,12 +10,17 @@ use Rattle.pb_lan.specs.declared.plan.Spanning.{Spanning}
 use Rattle.pb_lan.specs.declared.plan.Spanning.TheVariants.{Fixed, Rstp}
 use Rattle.pb_net.specs.Answers.{NetView, IsAnswer}
 use Rattle.pb_net.specs.declared.did.Did.TheVariants.{Done}
-use Rattle.pb_relay.specs.Settled.{TellsSettled, machines_in}
+use Rattle.pb_lan.specs.declared.plan.Plan.{Plan}
+use Rattle.pb_lan.specs.declared.record.Record.{Record}
+use Rattle.pb_relay.specs.Settled.{TellsConverged, machines_in}
+use Rattle.pb_rstp.specs.Tree.{NoneHeld}
+use Rattle.pb_spanning_tree.specs.Laws.{AreTree}
+use Rattle.pb_spanning_tree.specs.Planned.{disabled_by}
 use Rattle.pb_converge.specs.Enough.{HasEnoughMemory}
 use Rattle.pb_converge.specs.declared.fault.DriveFault.{DriveFault}
 use Rattle.pb_converge.specs.declared.fault.DriveFault.TheVariants.{Memory, Steps, Events}
-use Rattle.pb_converge.specs.declared.rest.Rest.{Rest}
-use Rattle.pb_converge.specs.declared.rest.Rest.TheVariants.{Given, Settled, Unsettled}
+use Rattle.pb_converge.specs.declared.convergence.Convergence.{Convergence}
+use Rattle.pb_converge.specs.declared.convergence.Convergence.TheVariants.{Given, Converged, NotConverged}
 
 -- the event carries on what is on its way: no frame is polled, no clock ticks, no port is enabled or disabled
 abbrev pub is_onward : Event → Bool
@@ -158,20 +163,20 @@ abbrev pub HasStood : Spanning → ℕ → ℕ → NetView → NetView → Type 
 HasStood Fixed ticks events old new = new ≡ old
 HasStood Rstp ticks events old new = HasGoneRound ticks events old new
 
--- this many rounds and one more: `before` says whether the bridges were settled before the last, and `after` whether
--- they are settled after it
+-- this many rounds and one more: `before` says whether the bridges had converged before the last, and `after`
+-- whether they have converged after it
 pub record HasLooked (rounds : ℕ) (before after : Bool) (old new : NetView) : Type 0 where
   pub between : NetView
   pub count : ℕ
   pub gone : AreRounds rounds count old between
   pub more : ℕ
   pub last : IsRound more between new
-  pub told_before : TellsSettled between.plan between.rec (Some before)
-  pub told_after : TellsSettled new.plan new.rec (Some after)
+  pub told_before : TellsConverged between.plan between.rec (Some before)
+  pub told_after : TellsConverged new.plan new.rec (Some after)
 
--- after one of the last two rounds of so many the bridges were not settled
-abbrev pub WasUnsettled : ℕ → NetView → NetView → Type 0
-WasUnsettled ticks old new =
+-- after one of the last two rounds of so many the bridges had not converged
+abbrev pub HadNotConverged : ℕ → NetView → NetView → Type 0
+HadNotConverged ticks old new =
     (before : Bool) × (after : Bool) × HasLooked (ticks - 1) before after old new × ((before && after) ≡ false)
 
 -- the link loses no frame
@@ -205,13 +210,19 @@ pub record HasRecurred (most rounds : ℕ) (old new : NetView) : Type 0 where
 abbrev pub IsAtEnd : ℕ → ℕ → NetView → NetView → Type 0
 IsAtEnd most rounds old new = (rounds ≡ most) ⊎ HasRecurred most rounds old new
 
--- the plan gives the states and nothing was done; or the bridges were settled after the last two rounds, within the
--- limits; or the limit of ticks is reached or need not be, and they were not settled after two rounds in a row
-abbrev pub HasRested : ℕ → ℕ → Rest → NetView → NetView → Type 0
-HasRested most events Given old new = (old.plan.spanning ≡ Fixed) × (new ≡ old)
-HasRested most events (Settled ticks) old new =
+-- the bridges form the spanning tree of the plan and of the ports that they have disabled, whatever the steps of the
+-- record are, if no root path cost is cut
+abbrev pub FormTree : Plan → Record → Type 0
+FormTree plan rec =
+    NoneHeld (machines_in plan rec) → AreTree plan (machines_in plan rec) (disabled_by (machines_in plan rec))
+
+-- the plan gives the states and nothing was done; or the bridges had converged after the last two rounds, within the
+-- limits; or the limit of ticks is reached or need not be, and they had not converged after two rounds in a row
+abbrev pub EndsAs : ℕ → ℕ → Convergence → NetView → NetView → Type 0
+EndsAs most events Given old new = (old.plan.spanning ≡ Fixed) × (new ≡ old)
+EndsAs most events (Converged ticks) old new =
     (old.plan.spanning ≡ Rstp) × (2 ≤ ticks) × (ticks ≤ most) × HasGoneRound ticks events old new
-    × TellsSettled new.plan new.rec (Some true) × HasLooked (ticks - 1) true true old new
-HasRested most events (Unsettled ticks) old new =
+    × TellsConverged new.plan new.rec (Some true) × HasLooked (ticks - 1) true true old new × FormTree new.plan new.rec
+EndsAs most events (NotConverged ticks) old new =
     (old.plan.spanning ≡ Rstp) × (ticks ≡ most)
-    × (rounds : ℕ) × HasGoneRound rounds events old new × IsAtEnd most rounds old new × (2 ≤ rounds → WasUnsettled rounds old new)
+    × (rounds : ℕ) × HasGoneRound rounds events old new × IsAtEnd most rounds old new × (2 ≤ rounds → HadNotConverged rounds old new)

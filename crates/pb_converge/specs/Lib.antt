@@ -4,4 +4,4 @@ pub mod Recurrence
 pub mod Sweeps
 pub mod Falls
 pub mod Suggestions
-pub mod Rests
+pub mod Convergences

@@ -209,7 +209,7 @@ fn counts_are_tabled(rt: HostRuntime) -> Result<(), Fail> {
 #[test]
 fn failures_are_tabled(rt: HostRuntime) -> Result<(), Fail> {
     let wanted =
-        "down,name,other,settled,ticks,forest,accepted\r\nlink,ring5,,yes,3,yes,\r\nlinks,a,b,no,200,no,\r\n\
+        "down,name,other,converged,ticks,forest,accepted\r\nlink,ring5,,yes,3,yes,\r\nlinks,a,b,no,200,no,\r\n\
             bridge,B1,,,,yes,\r\n";
     tabled(
         &rt,

@@ -1,7 +1,7 @@
 //! A module for each subject: its harness and its tests over networks.
 
+mod converging;
 mod diff;
 mod draw;
-mod settle;
 mod suggestions;
 mod survive;

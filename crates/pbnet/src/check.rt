@@ -9,7 +9,7 @@ use crate::messages::printable;
 use crate::refusal::{print_errors, put_error_rows};
 use crate::telling::tell_on;
 use pb_cli::{CheckOptions, ReportFormat};
-use pb_cmd_check::{run_check, run_settled_check};
+use pb_cmd_check::{run_check, run_converged_check};
 use pb_export::CHECK;
 use pb_frame::Memory;
 use pb_messages::CommandFault;
@@ -106,7 +106,7 @@ fn report_on<W: Write>(
         )?;
     }
     let status = match options.settle {
-        Some(ticks) => run_settled_check(alloc, file, ticks, out)?,
+        Some(ticks) => run_converged_check(alloc, file, ticks, out)?,
         None => run_check(alloc, file, out)?,
     };
     if out.write_all(warnings.as_bytes()).is_err() {

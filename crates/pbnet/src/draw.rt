@@ -6,7 +6,7 @@ use crate::messages::complain;
 use crate::telling::{FAULT, WRONG_ARGUMENTS, tell};
 use crate::{REFUSED, contents, ended};
 use pb_cli::{DrawOptions, PictureFormat, ReportFormat};
-use pb_cmd_draw::{Asked, DrawEnd, Format, Rest, run_draw};
+use pb_cmd_draw::{Asked, Convergence, DrawEnd, Format, run_draw};
 use pb_messages::CommandFault;
 use std::fs::Files;
 use std::io::Write;
@@ -57,7 +57,7 @@ pub(crate) fn draw_network(
     };
     match drawn {
         Err(fault) => tell(rt, fault),
-        Ok(DrawEnd::Drawn(rest)) => drawn_at(rt, rest),
+        Ok(DrawEnd::Drawn(convergence)) => drawn_at(rt, convergence),
         Ok(DrawEnd::Refused) => out.ended(ended(rt, path, file.as_slice(), REFUSED)),
         Ok(DrawEnd::NoDown(fault)) => refuse_down(rt, file.as_slice(), asked.downs, fault),
         Ok(DrawEnd::NoService) => no_service(rt, asked.service),
@@ -136,8 +136,8 @@ pub(crate) fn save(
 }
 
 /// Warns if the bridges had not converged when the picture was drawn. Returns the exit status 0.
-fn drawn_at(rt: &impl Eprint, rest: Rest) -> ExitCode {
-    if let Rest::Unsettled(ticks) = rest {
+fn drawn_at(rt: &impl Eprint, convergence: Convergence) -> ExitCode {
+    if let Convergence::NotConverged(ticks) = convergence {
         let _ = eprintln!(rt; "warning: bridges not converged after {ticks} ticks");
     }
     ExitCode::SUCCESS

@@ -152,10 +152,10 @@ impl<R: Clock + Eprint + AllocGlobal + Sync> RunProgress for RunMonitor<'_, R> {
         self.close();
         let alloc = self.rt.alloc();
         self.offer(match opening {
-            Opening::Settled(ticks) => {
+            Opening::Converged(ticks) => {
                 format!(in alloc; "bridges converged after {ticks} ticks\n")
             }
-            Opening::Unsettled(ticks) => {
+            Opening::NotConverged(ticks) => {
                 format!(in alloc;
                     "warning: bridges not converged after {ticks} ticks: frames enter now\n"
                 )

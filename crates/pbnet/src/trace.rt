@@ -58,7 +58,7 @@ fn describe_first(
 }
 
 /// Reports that no frame gets far, if the bridges of the plan of a file run the spanning tree and have not converged.
-fn note_unsettled(rt: &(impl Eprint + AllocGlobal), file: &[u8], settle: Option<u32>) {
+fn note_not_converged(rt: &(impl Eprint + AllocGlobal), file: &[u8], settle: Option<u32>) {
     let Ok((plan, _ports)) = read_plan(rt.alloc(), file) else {
         return;
     };
@@ -118,7 +118,7 @@ fn trace_on<R: Files + Eprint + AllocGlobal, W: Write>(
     match told {
         Err(fault) => Ok(tell_on(out, fault)),
         Ok(TraceEnd::Told) => {
-            note_unsettled(rt, file.as_slice(), options.settle);
+            note_not_converged(rt, file.as_slice(), options.settle);
             Ok(ExitCode::SUCCESS)
         }
         Ok(TraceEnd::Refused) => Ok(ended(rt, path, file.as_slice(), REFUSED)),

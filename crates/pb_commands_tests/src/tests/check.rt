@@ -7,8 +7,8 @@ ghost use Rattle.pb_cmd_check.specs.Shows.{fate_line};
 ghost use Rattle.pb_frame.specs.Admission.{block};
 ghost use Rattle.pb_report.specs.Refusals.{IsRefusalText};
 
+mod converged;
 mod examples;
-mod settled;
 
 use pb_cmd_check::{run_check, run_show};
 use pb_fakes::{Full, Unflushed, plans};

@@ -226,23 +226,23 @@ delivered at shop hotel; dropped 2; refused 0; lost 0
 ";
 
 /// Bridges that run the protocol converge first: the second link is Discarding at its far end.
-const SETTLED: &str = "\
-settled yes ticks 2
+const CONVERGED: &str = "\
+converged ticks 2
 in ffffffffffff02000000010108004142: polled C1 0
   B1 2 from C1, red vid 100 priority 0, source learnt, flooded: relayed 1 3
     B1 1 to L1, tag 88a80064 added
-    L1 ab: taken 6
+    L1 ab: taken 4
     B2 1 from L1, red vid 100 priority 0, source learnt, flooded: relayed 2
       B2 2 to C2, tag removed
       C2: delivered ffffffffffff02000000010108004142
     B1 3 to L2, tag 88a80064 added
-    L2 ab: taken 6
+    L2 ab: taken 4
     B2 3 from L2, red vid 100 priority 0: dropped: not-forwarding
 delivered at C2; dropped 1; refused 0; lost 0
 ";
 
 /// Before the first tick no port to another bridge is Forwarding.
-const UNSETTLED: &str = "\
+const NOT_CONVERGED: &str = "\
 in ffffffffffff02000000010108004142: polled C1 0
   B1 2 from C1, red vid 100 priority 0, source learnt: dropped: no-port
 not delivered; dropped 1; refused 0; lost 0
@@ -312,14 +312,14 @@ fn frames_are_told_hop_by_hop(rt: HostRuntime) -> Result<(), Fail> {
             &[("C1", BROADCAST)],
             Some(200),
             TraceEnd::Told,
-            SETTLED,
+            CONVERGED,
         ),
         (
             pb_fakes::plans::FAILOVER,
             &[("C1", BROADCAST)],
             None,
             TraceEnd::Told,
-            UNSETTLED,
+            NOT_CONVERGED,
         ),
         (
             plans::TWO,

@@ -299,8 +299,8 @@ fn given_trees_are_told(rt: HostRuntime) -> Result<(), Fail> {
 }
 
 /// The trees before the first tick: each bridge is its own root.
-const UNSETTLED: &str = "\
-settled no ticks 0\n\
+const NOT_CONVERGED: &str = "\
+not converged ticks 0\n\
 bridge B0 root B0 cost 0\n\
 port B0 1 link a designated discarding cost 200000 from B0\n\
 port B0 2 link b designated discarding cost 200000 from B0\n\
@@ -316,7 +316,7 @@ forest yes\n\
 #[test]
 fn what_is_wrong_is_told(rt: HostRuntime) -> Result<(), Fail> {
     const ROWS: &[Row] = &[
-        (drawn::ONE, &[], 0, TreeEnd::Told, UNSETTLED),
+        (drawn::ONE, &[], 0, TreeEnd::Told, NOT_CONVERGED),
         (
             "bridges = []",
             &[],

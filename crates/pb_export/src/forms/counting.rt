@@ -26,7 +26,7 @@ const LINK: &[Slot] = slots![
     ("ba_lost", Kind::Number, ""),
 ];
 
-/// Whether the bridges have converged.
+/// Whether the bridges are settled.
 const SETTLED: &[Slot] = slots![("settled", Kind::OneOf(YES_OR_NO), ""),];
 
 /// The fault of a port's input.
@@ -107,7 +107,7 @@ const PORT_LINE: Template = template!("ports", "port ", PORT);
 /// A link.
 const LINK_LINE: Template = template!("links", "link ", LINK);
 
-/// Whether the bridges have converged.
+/// Whether the bridges are settled.
 const SETTLED_LINE: Template = template!("", "settled ", SETTLED);
 
 /// The frames that a customer port did not write.
@@ -176,7 +176,7 @@ const DROPPED: &[Slot] = slots![
 const TRANSIT: &[Slot] = slots![("in_transit", Kind::Number, ""),];
 
 /// The bridges have not converged.
-const UNSETTLED: &[Slot] = slots![("what", Kind::OneOf(CONVERGENCE), ""),];
+const NOT_CONVERGED: &[Slot] = slots![("what", Kind::OneOf(CONVERGENCE), ""),];
 
 /// A path or an address that a customer port could not use.
 const PORT_PATH: &[Slot] = slots![
@@ -218,7 +218,7 @@ const RUN_LINES: &[Template] = &[
     template!("losses", "tap of link ", TAP_UNWRITTEN),
     template!("losses", "bridge ", UNQUEUED),
     template!("losses", "bridge ", UNLEARNT),
-    template!("losses", "", UNSETTLED),
+    template!("losses", "", NOT_CONVERGED),
     template!("drops", "port ", REFUSED),
     template!("drops", "port ", UNRECEIVED),
     template!("drops", "bridge ", DROPPED),

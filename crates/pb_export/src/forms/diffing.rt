@@ -141,20 +141,20 @@ const ENDS: &[Slot] = slots![
 ];
 
 /// Bridges converge now, or not any more, with nothing down.
-const REST: &[Slot] = slots![
+const CONVERGENCE: &[Slot] = slots![
     ("down", Kind::OneOf(NONE_DOWN), ""),
     ("converges", Kind::OneOf(CONVERGES), ""),
 ];
 
 /// The same with a link or a bridge down.
-const ONE_REST: &[Slot] = slots![
+const ONE_CONVERGENCE: &[Slot] = slots![
     ("down", Kind::OneOf(ONE_DOWN), ""),
     ("name", Kind::Text, " down: "),
     ("converges", Kind::OneOf(CONVERGES), ""),
 ];
 
 /// The same with two links down.
-const TWO_REST: &[Slot] = slots![
+const TWO_CONVERGENCE: &[Slot] = slots![
     ("down", Kind::OneOf(TWO_DOWN), ""),
     ("name", Kind::Text, " "),
     ("other", Kind::Text, " down: "),
@@ -216,9 +216,9 @@ const LINES: &[Template] = &[
     template!("loop_changes", "service ", ONE_LOOP),
     template!("loop_changes", "service ", TWO_LOOP),
     template!("ends", "link ", ENDS),
-    template!("convergence", "", REST),
-    template!("convergence", "", ONE_REST),
-    template!("convergence", "", TWO_REST),
+    template!("convergence", "", CONVERGENCE),
+    template!("convergence", "", ONE_CONVERGENCE),
+    template!("convergence", "", TWO_CONVERGENCE),
     template!("failures", "", ONE_CHANGE),
     template!("failures", "", TWO_CHANGE),
     template!("parts", "", ADDED),

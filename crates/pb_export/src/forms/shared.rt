@@ -6,7 +6,10 @@ use crate::templates::{Choice, Kind, ListForm, ListShape, Said, Slot, Template};
 pub(super) const YES_OR_NO: &[Choice] = choices![("yes", Said::Yes), ("no", Said::No),];
 
 /// Whether the bridges have converged, before the ticks.
-const SETTLED: &[Choice] = choices![("yes ticks ", Said::Yes), ("no ticks ", Said::No),];
+pub(super) const CONVERGED: &[Choice] = choices![
+    ("converged ticks ", Said::Yes),
+    ("not converged ticks ", Said::No),
+];
 
 /// Whether the active links are a forest.
 const FOREST_SLOTS: &[Slot] = slots![("forest", Kind::OneOf(YES_OR_NO), ""),];
@@ -28,8 +31,8 @@ const PLAN_FAULT_SLOTS: &[Slot] = slots![("rule", Kind::Number, " "), ("fault", 
 const FAULT_SLOTS: &[Slot] = slots![("fault", Kind::Text, ""),];
 
 /// Whether the bridges have converged, and after how many ticks.
-const SETTLED_SLOTS: &[Slot] = slots![
-    ("settled", Kind::OneOf(SETTLED), ""),
+const CONVERGED_SLOTS: &[Slot] = slots![
+    ("converged", Kind::OneOf(CONVERGED), ""),
     ("ticks", Kind::Number, ""),
 ];
 
@@ -56,7 +59,7 @@ pub(super) const PLAN_FAULT: Template = template!("plan_fault", "plan: ", PLAN_F
 pub(super) const FAULT: Template = template!("", "fault: ", FAULT_SLOTS);
 
 /// Whether the bridges have converged, and after how many ticks.
-pub(super) const SETTLED_AFTER: Template = template!("", "settled ", SETTLED_SLOTS);
+pub(super) const CONVERGED_AFTER: Template = template!("", "", CONVERGED_SLOTS);
 
 /// A line of any other form.
 pub(super) const OTHER: Template = template!("other", "", LINE_SLOTS);

@@ -1,6 +1,8 @@
 //! The reports of `survive`.
 
-use super::shared::{FAULT, NAMED_PLAN_FAULT, OTHER, OTHERS, PLAN_FAULT, PLAN_FAULTS, YES_OR_NO};
+use super::shared::{
+    CONVERGED, FAULT, NAMED_PLAN_FAULT, OTHER, OTHERS, PLAN_FAULT, PLAN_FAULTS, YES_OR_NO,
+};
 use crate::tables::{Cell, CellRow, Table};
 use crate::templates::{Choice, Form, Kind, ListForm, ListShape, Said, Slot, Template};
 
@@ -13,17 +15,8 @@ const ONE_DOWN: &[Choice] = choices![
 /// Two links are down.
 const TWO_DOWN: &[Choice] = choices![("links ", Said::Word("links")),];
 
-/// Whether the bridges converged.
-const SETTLED: &[Choice] = choices![
-    ("settled ticks ", Said::Yes),
-    ("not settled ticks ", Said::No),
-];
-
 /// The network survives.
-const SURVIVES: &[Choice] = choices![
-    ("every single failure", Said::Yes),
-    ("every failure that is not accepted", Said::Yes),
-];
+const SURVIVES: &[Choice] = choices![("", Said::Yes),];
 
 /// Some failures do harm.
 const PARTS: &[Choice] = choices![(" failures disconnect a service", Said::No),];
@@ -70,7 +63,7 @@ const DOWNS: &[Slot] = slots![("down", Kind::Words, ""),];
 
 /// The network with nothing down.
 const CALM: &[Slot] = slots![
-    ("settled", Kind::OneOf(SETTLED), ""),
+    ("converged", Kind::OneOf(CONVERGED), ""),
     ("ticks", Kind::Number, " forest "),
     ("forest", Kind::OneOf(YES_OR_NO), ""),
 ];
@@ -83,7 +76,7 @@ const ONE: &[Slot] = slots![
     ("accepted", Kind::OneOf(IS_ACCEPTED), ""),
     ("down", Kind::OneOf(ONE_DOWN), ""),
     ("name", Kind::Text, " down: "),
-    ("settled", Kind::OneOf(SETTLED), ""),
+    ("converged", Kind::OneOf(CONVERGED), ""),
     ("ticks", Kind::Number, " forest "),
     ("forest", Kind::OneOf(YES_OR_NO), ""),
 ];
@@ -102,7 +95,7 @@ const TWO: &[Slot] = slots![
     ("down", Kind::OneOf(TWO_DOWN), ""),
     ("name", Kind::Text, " "),
     ("other", Kind::Text, " down: "),
-    ("settled", Kind::OneOf(SETTLED), ""),
+    ("converged", Kind::OneOf(CONVERGED), ""),
     ("ticks", Kind::Number, " forest "),
     ("forest", Kind::OneOf(YES_OR_NO), ""),
 ];
@@ -226,7 +219,7 @@ const LOOPING: &[Slot] = slots![
 ];
 
 /// After how many failures the bridges do not converge.
-const UNSETTLED: &[Slot] = slots![
+const NOT_CONVERGED: &[Slot] = slots![
     ("do_not_converge", Kind::Number, " of "),
     ("failures_tried", Kind::Number, ""),
     ("survives", Kind::OneOf(KEEPS_GOING), ""),
@@ -239,7 +232,10 @@ const ACCEPTANCE: &[Slot] = slots![
 ];
 
 /// That the network survives.
-const SURVIVING: &[Slot] = slots![("survives", Kind::OneOf(SURVIVES), ""),];
+const SURVIVING: &[Slot] = slots![
+    ("survives", Kind::OneOf(SURVIVES), ""),
+    ("tried", Kind::Text, ""),
+];
 
 /// The plan lacks the service with a name.
 const NO_SERVICE: &[Slot] = slots![("service", Kind::Text, ""),];
@@ -276,9 +272,9 @@ const LINES: &[Template] = &[
     template!("", "", EXCUSED),
     template!("", "", PARTING),
     template!("", "", LOOPING),
-    template!("", "", UNSETTLED),
+    template!("", "", NOT_CONVERGED),
     template!("acceptances", "", ACCEPTANCE),
-    template!("", "survives ", SURVIVING),
+    template!("", "survives the failure of ", SURVIVING),
     template!("no_such", "no such service ", NO_SERVICE),
     template!("no_such", "no such port ", NO_PORT),
     FAULT,
@@ -321,9 +317,9 @@ const LINES_BESIDE: &[Template] = &[
     template!("", "", EXCUSED),
     template!("", "", PARTING),
     template!("", "", LOOPING),
-    template!("", "", UNSETTLED),
+    template!("", "", NOT_CONVERGED),
     template!("acceptances", "", ACCEPTANCE),
-    template!("", "survives ", SURVIVING),
+    template!("", "survives the failure of ", SURVIVING),
     template!("no_such", "no such service ", NO_SERVICE),
     template!("no_such", "no such port ", NO_PORT),
     FAULT,
@@ -364,7 +360,13 @@ pub const SURVIVE_BESIDE: Form = Form {
 
 /// The titles of the columns.
 const TITLES: &[&str] = &[
-    "down", "name", "other", "settled", "ticks", "forest", "accepted",
+    "down",
+    "name",
+    "other",
+    "converged",
+    "ticks",
+    "forest",
+    "accepted",
 ];
 
 /// A failure.
@@ -372,7 +374,7 @@ const CELLS: &[Cell] = &[
     Cell::Held("down"),
     Cell::Held("name"),
     Cell::Held("other"),
-    Cell::Held("settled"),
+    Cell::Held("converged"),
     Cell::Held("ticks"),
     Cell::Held("forest"),
     Cell::Held("accepted"),

@@ -1,7 +1,7 @@
 //! The reports of `trace`.
 
 use super::shared::{
-    FAULT, NAMED_PLAN_FAULT, OTHER, OTHERS, PLAN_FAULT, PLAN_FAULTS, SETTLED_AFTER,
+    CONVERGED_AFTER, FAULT, NAMED_PLAN_FAULT, OTHER, OTHERS, PLAN_FAULT, PLAN_FAULTS,
 };
 use crate::templates::{Choice, Form, Kind, ListForm, ListShape, Said, Slot, Template};
 
@@ -207,7 +207,7 @@ const LINES: &[Template] = &[
     template!("", "loops over", ROUND),
     template!("", "delivered at", SUMMARY),
     template!("", "not delivered", SUMMARY),
-    SETTLED_AFTER,
+    CONVERGED_AFTER,
     FAULT,
     NAMED_PLAN_FAULT,
     PLAN_FAULT,

@@ -1,8 +1,8 @@
 //! The reports of `tree`.
 
 use super::shared::{
-    FAULT, FOREST, LOOP, LOOPS, NAMED_PLAN_FAULT, OTHER, OTHERS, PLAN_FAULT, PLAN_FAULTS,
-    SETTLED_AFTER,
+    CONVERGED_AFTER, FAULT, FOREST, LOOP, LOOPS, NAMED_PLAN_FAULT, OTHER, OTHERS, PLAN_FAULT,
+    PLAN_FAULTS,
 };
 use crate::templates::{Form, Kind, ListForm, ListShape, Slot, Template};
 
@@ -53,7 +53,7 @@ const BRANCH: &[Slot] = slots![
 
 /// The lines.
 const LINES: &[Template] = &[
-    SETTLED_AFTER,
+    CONVERGED_AFTER,
     template!("bridges", "bridge ", BELOW),
     template!("bridges", "bridge ", ROOT),
     template!("bridges", "bridge ", BRIDGE),

@@ -9,10 +9,10 @@ pub(super) const COUNTED: &str =
 
 /// A network under failures.
 pub(super) const FAILED: &str =
-    "nothing down: settled ticks 3 forest no\n  loop red\n  service red: C1 C2 | C3 | C4\n\
+    "nothing down: converged ticks 3 forest no\n  loop red\n  service red: C1 C2 | C3 | C4\n\
     service red is disconnected\nservice red has a forwarding loop\nnot healthy with nothing down: 1 service\n\
-    link ring5 down: settled ticks 3 forest yes\n  service red: C1 | C2\n\
-    links a b down: not settled ticks 200 forest no\n  C1 cut off from: C2 C3\n\
+    link ring5 down: converged ticks 3 forest yes\n  service red: C1 | C2\n\
+    links a b down: not converged ticks 200 forest no\n  C1 cut off from: C2 C3\n\
     bridge B1 down: states given forest yes\nchecked 5 links, 3 bridges, 2 pairs\n\
     7 of 10 failures disconnect nothing\nconverges within 7 ticks\n3 of 10 failures disconnect a service\n\
     1 of 10 failures form a forwarding loop\n2 of 10 failures do not converge\n\
@@ -21,13 +21,13 @@ pub(super) const FAILED: &str =
 /// A report of `survive` with accepted failures, and with acceptances that are not needed.
 const ACCEPTED: &str =
     "nothing down: states given forest yes\n  service red: C1 C2\nhealthy with nothing down\n\
-    accepted link leaf down: settled ticks 3 forest yes\n  service red: C1 | C2\n\
+    accepted link leaf down: converged ticks 3 forest yes\n  service red: C1 | C2\n\
     link a down: states given forest yes\n  service red: C1 | C2\n\
     accepted links a leaf down: states given forest yes\n  C1 cut off from: C2\n\
     checked 4 links, 6 pairs\n8 of 10 failures disconnect nothing\n2 of 10 failures are accepted\n\
     stale acceptance: link b service red\nstale acceptance: bridge B1\n\
     stale acceptance: links a b service red\nuntried acceptance: bridge B2 service red\n\
-    untried acceptance: links b c\nsurvives every failure that is not accepted\n";
+    untried acceptance: links b c\nsurvives the failure of any two links, but for accepted disconnections\n";
 
 /// A run with losses, and with paths that it could not use.
 const LOST: &str =
@@ -149,14 +149,14 @@ pub(super) const STEPS: &[Said] = &[Said {
 /// Reports of `trace`.
 pub(super) const TRACES: &[Said] = &[
     Said {
-        text: "settled yes ticks 3\n\
+        text: "converged ticks 3\n\
             in ffff: polled C1 0\n  B1 2 from C1, red vid 100 priority 5, tag 88a80000 removed, source learnt, \
             flooded: relayed 1 3 full 4 memory 5\n    B1 1 to L1, tag 88a80064 added\n    L1 ab: taken 0\n    B2 1 \
             from L1, no service vid 9 priority 0: dropped: not-member\n    L2 ba: lost 7\n\
             in ffff: polled C2 1\n  B1 3 from L3, untagged, table full: dropped: no-port\n  B1 4 to L4, tag \
             88a80064\n  B1 2 to C3, tag removed\n  B1 2 to C4\n  C3: delivered ffff\nother events 2\n\
             delivered at C3 C4; dropped 2; refused 1; lost 1\n",
-        json: r#"{"settled": true, "ticks": 3, "others": 2, "left_at": ["C3", "C4"], "dropped": 2,
+        json: r#"{"converged": true, "ticks": 3, "others": 2, "left_at": ["C3", "C4"], "dropped": 2,
             "refused": 1, "lost": 1,
             "frames": [
             {"frame": "ffff", "port": "C1", "number": 0, "hops": [
@@ -186,10 +186,10 @@ pub(super) const TRACES: &[Said] = &[
 /// Reports of `tree`.
 pub(super) const TREES: &[Said] = &[
     Said {
-        text: "settled no ticks 200\nbridge B1 root B1 cost 0\n\
+        text: "not converged ticks 200\nbridge B1 root B1 cost 0\n\
             port B1 1 link L1 designated forwarding cost 20000 from B1\nbridge B2 root B1 cost 20000 port 1\n\
             forest yes\n",
-        json: r#"{"settled": false, "ticks": 200, "forest": true, "loops": [], "branches": [], "bridges": [
+        json: r#"{"converged": false, "ticks": 200, "forest": true, "loops": [], "branches": [], "bridges": [
             {"name": "B1", "root": "B1", "cost": 0,
                 "ports": [{"bridge": "B1", "port": 1, "link": "L1", "role": "designated", "state": "forwarding",
                     "cost": 20000, "from": "B1"}]},
@@ -206,15 +206,15 @@ pub(super) const TREES: &[Said] = &[
 /// Reports of `survive` on networks with something down at the start.
 pub(super) const IMPAIRED: &[Said] = &[
     Said {
-        text: "down: ring1 South\nnothing else down: settled ticks 3 forest yes\n  service red: C1 C2\n\
-            healthy with nothing else down\nlink ring2 down: settled ticks 4 forest yes\n  service red: C1 | C2\n\
+        text: "down: ring1 South\nnothing else down: converged ticks 3 forest yes\n  service red: C1 C2\n\
+            healthy with nothing else down\nlink ring2 down: converged ticks 4 forest yes\n  service red: C1 | C2\n\
             checked 3 links\n2 of 3 failures disconnect nothing\nconverges within 4 ticks\n\
             1 of 3 failures disconnect a service\n",
         json: r#"{"down": ["ring1", "South"],
-            "nothing_down": {"settled": true, "ticks": 3, "forest": true, "loops": [], "unhealthy": [],
+            "nothing_down": {"converged": true, "ticks": 3, "forest": true, "loops": [], "unhealthy": [],
                 "services": [{"name": "red", "groups": [["C1", "C2"]]}]},
             "acceptances": [], "failures": [
-                {"down": "link", "name": "ring2", "settled": true, "ticks": 4, "forest": true, "loops": [],
+                {"down": "link", "name": "ring2", "converged": true, "ticks": 4, "forest": true, "loops": [],
                     "cut_off": [], "services": [{"name": "red", "groups": [["C1"], ["C2"]]}]}],
             "healthy": true, "checked_links": 3, "part_nothing": 2, "failures_tried": 3, "most_ticks": 4,
             "part_a_service": 1, "survives": false}"#,
@@ -252,13 +252,13 @@ pub(super) const SURVIVALS: &[Said] = &[
     },
     Said {
         text: FAILED,
-        json: r#"{"nothing_down": {"settled": true, "ticks": 3, "forest": false, "loops": ["red"],
+        json: r#"{"nothing_down": {"converged": true, "ticks": 3, "forest": false, "loops": ["red"],
                 "services": [{"name": "red", "groups": [["C1", "C2"], ["C3"], ["C4"]]}],
                 "unhealthy": [{"service": "red", "fault": "disconnected"}, {"service": "red", "fault": "loop"}]},
             "acceptances": [], "failures": [
-                {"down": "link", "name": "ring5", "settled": true, "ticks": 3, "forest": true, "loops": [],
+                {"down": "link", "name": "ring5", "converged": true, "ticks": 3, "forest": true, "loops": [],
                     "cut_off": [], "services": [{"name": "red", "groups": [["C1"], ["C2"]]}]},
-                {"down": "links", "name": "a", "other": "b", "settled": false, "ticks": 200, "forest": false,
+                {"down": "links", "name": "a", "other": "b", "converged": false, "ticks": 200, "forest": false,
                     "loops": [], "services": [], "cut_off": [{"port": "C1", "from": ["C2", "C3"]}]},
                 {"down": "bridge", "name": "B1", "forest": true, "loops": [], "services": [], "cut_off": []}],
             "healthy": false, "unhealthy_services": 1, "checked_links": 5, "checked_bridges": 3, "checked_pairs": 2,
@@ -267,18 +267,18 @@ pub(super) const SURVIVALS: &[Said] = &[
     },
     Said {
         text: "nothing down: states given forest yes\n  service red: C1 C2\nhealthy with nothing down\n\
-            checked 2 links, 1 pair\n3 of 3 failures disconnect nothing\nsurvives every single failure\n",
+            checked 2 links, 1 pair\n3 of 3 failures disconnect nothing\nsurvives the failure of any two links\n",
         json: r#"{"nothing_down": {"forest": true, "loops": [], "unhealthy": [],
                 "services": [{"name": "red", "groups": [["C1", "C2"]]}]},
             "acceptances": [], "failures": [], "healthy": true, "checked_links": 2, "checked_pairs": 1,
-            "part_nothing": 3, "failures_tried": 3, "survives": true}"#,
+            "part_nothing": 3, "failures_tried": 3, "survives": true, "tried": "any two links"}"#,
     },
     Said {
-        text: "nothing down: not settled ticks 9 forest yes\n  service red: C1\nbridges do not converge\n\
+        text: "nothing down: not converged ticks 9 forest yes\n  service red: C1\nbridges do not converge\n\
             service red has fewer than two ports\n\
             not healthy with nothing down: 1 service, bridges do not converge\nchecked 0 links, 1 bridge\n\
             not healthy with nothing down: 1 service, bridges do not converge\n",
-        json: r#"{"nothing_down": {"settled": false, "ticks": 9, "forest": true, "loops": [],
+        json: r#"{"nothing_down": {"converged": false, "ticks": 9, "forest": true, "loops": [],
                 "services": [{"name": "red", "groups": [["C1"]]}],
                 "unhealthy": [{"fault": "not converged"}, {"service": "red", "fault": "too few ports"}]},
             "acceptances": [], "failures": [], "healthy": false, "unhealthy_services": 1, "checked_links": 0,
@@ -299,7 +299,7 @@ pub(super) const SURVIVALS: &[Said] = &[
         json: r#"{"nothing_down": {"forest": true, "loops": [], "unhealthy": [],
                 "services": [{"name": "red", "groups": [["C1", "C2"]]}]},
             "failures": [
-                {"accepted": true, "down": "link", "name": "leaf", "settled": true, "ticks": 3, "forest": true,
+                {"accepted": true, "down": "link", "name": "leaf", "converged": true, "ticks": 3, "forest": true,
                     "loops": [], "cut_off": [], "services": [{"name": "red", "groups": [["C1"], ["C2"]]}]},
                 {"down": "link", "name": "a", "forest": true, "loops": [], "cut_off": [],
                     "services": [{"name": "red", "groups": [["C1"], ["C2"]]}]},
@@ -310,7 +310,7 @@ pub(super) const SURVIVALS: &[Said] = &[
                 {"state": "untried", "accepts": "bridge B2 service red"},
                 {"state": "untried", "accepts": "links b c"}],
             "healthy": true, "checked_links": 4, "checked_pairs": 6, "part_nothing": 8, "failures_tried": 10,
-            "are_accepted": 2, "survives": true}"#,
+            "are_accepted": 2, "survives": true, "tried": "any two links, but for accepted disconnections"}"#,
     },
 ];
 

@@ -146,7 +146,7 @@ fn the_order_of_parts_does_not_matter(rt: HostRuntime) -> Result<(), Fail> {
 }
 
 #[test]
-fn a_new_link_joins_what_a_failure_parted(rt: HostRuntime) -> Result<(), Fail> {
+fn a_new_link_joins_what_a_failure_disconnected(rt: HostRuntime) -> Result<(), Fail> {
     let alloc = rt.alloc();
     let files = (plans::LINE, plans::CLOSED);
     says(&rt, alloc, files, &ALL, DiffEnd::Kept, plans::CLOSING)?;

@@ -9,7 +9,7 @@ mod apart;
 mod lists;
 mod plans;
 
-use pb_cmd_draw::{Asked, DownFault, DrawEnd, Format, Rest, run_draw};
+use pb_cmd_draw::{Asked, Convergence, DownFault, DrawEnd, Format, run_draw};
 use pb_fakes::{Full, Unflushed};
 use pb_messages::CommandFault;
 use plans::Piece;
@@ -90,86 +90,86 @@ fn networks_are_drawn(rt: HostRuntime) -> Result<(), Fail> {
         (
             plans::GIVEN,
             (None, &[], 200, SVG),
-            DrawEnd::Drawn(Rest::Given),
+            DrawEnd::Drawn(Convergence::Given),
             plans::GIVEN_PIECES,
         ),
         (
             plans::GIVEN,
             (Some("blue"), &[], 200, SVG),
-            DrawEnd::Drawn(Rest::Given),
+            DrawEnd::Drawn(Convergence::Given),
             plans::BLUE_PIECES,
         ),
         (
             plans::GIVEN,
             (Some("red"), &[], 200, SVG),
-            DrawEnd::Drawn(Rest::Given),
+            DrawEnd::Drawn(Convergence::Given),
             plans::RED_PIECES,
         ),
         (
             plans::GIVEN,
             (Some("red"), &["L2"], 200, SVG),
-            DrawEnd::Drawn(Rest::Given),
+            DrawEnd::Drawn(Convergence::Given),
             plans::CUT_PIECES,
         ),
         (
             plans::GIVEN,
             (None, &["B2:2"], 0, SVG),
-            DrawEnd::Drawn(Rest::Given),
+            DrawEnd::Drawn(Convergence::Given),
             plans::DOWN_PIECES,
         ),
         (
             plans::GIVEN,
             (None, &["L1"], 200, SVG),
-            DrawEnd::Drawn(Rest::Given),
+            DrawEnd::Drawn(Convergence::Given),
             plans::LINK_PIECES,
         ),
         (
             plans::GIVEN,
             (None, &["B2"], 200, SVG),
-            DrawEnd::Drawn(Rest::Given),
+            DrawEnd::Drawn(Convergence::Given),
             plans::BRIDGE_PIECES,
         ),
         (
             plans::SAME_NAMES,
             (None, &["B2"], 200, SVG),
-            DrawEnd::Drawn(Rest::Given),
+            DrawEnd::Drawn(Convergence::Given),
             plans::SAME_NAMES_PIECES,
         ),
         (
             plans::GIVEN,
             (None, &[], 200, DOT),
-            DrawEnd::Drawn(Rest::Given),
+            DrawEnd::Drawn(Convergence::Given),
             plans::DOT_PIECES,
         ),
         (
             plans::GIVEN,
             (None, &["B2"], 200, DOT),
-            DrawEnd::Drawn(Rest::Given),
+            DrawEnd::Drawn(Convergence::Given),
             plans::DOT_DOWN_PIECES,
         ),
         (
             plans::LOOP,
             (Some("red"), &[], 200, SVG),
-            DrawEnd::Drawn(Rest::Given),
+            DrawEnd::Drawn(Convergence::Given),
             plans::LOOP_RED_PIECES,
         ),
         (
             plans::LOOP,
             (Some("blue"), &[], 200, SVG),
-            DrawEnd::Drawn(Rest::Given),
+            DrawEnd::Drawn(Convergence::Given),
             plans::LOOP_BLUE_PIECES,
         ),
         (
             plans::RING,
             (None, &[], 200, SVG),
-            DrawEnd::Drawn(Rest::Settled(2)),
+            DrawEnd::Drawn(Convergence::Converged(2)),
             plans::RING_PIECES,
         ),
         (
             plans::RING,
             (None, &[], 0, SVG),
-            DrawEnd::Drawn(Rest::Unsettled(0)),
-            plans::UNSETTLED_PIECES,
+            DrawEnd::Drawn(Convergence::NotConverged(0)),
+            plans::NOT_CONVERGED_PIECES,
         ),
     ];
     draws(&rt, rt.alloc(), false, ROWS)

@@ -7,6 +7,7 @@ ghost use Rattle.pb_cmd_survive.specs.Survivals.{IsSurviveText};
 mod accepting;
 mod counted;
 mod draft;
+mod early;
 mod networks;
 mod texts;
 
@@ -37,6 +38,12 @@ const PAIRS: Kinds = Kinds {
 const BRIDGES: Kinds = Kinds {
     bridges: true,
     pairs: false,
+};
+
+/// Single links, single bridges and pairs of links.
+const EACH: Kinds = Kinds {
+    bridges: true,
+    pairs: true,
 };
 
 /// Returns how the command ends where the program's exit status is this one.
@@ -144,6 +151,21 @@ fn a_ring_survives_each_bridge(rt: HostRuntime) -> Result<(), Fail> {
 }
 
 #[test]
+fn a_mesh_survives_any_two_links(rt: HostRuntime) -> Result<(), Fail> {
+    let alloc = rt.alloc();
+    says(
+        &rt,
+        alloc,
+        &over_red(&networks::MESH, PAIRS, 0, texts::MESH),
+    )?;
+    says(
+        &rt,
+        alloc,
+        &over_red(&networks::MESH, EACH, 0, texts::MESH_BRIDGES),
+    )
+}
+
+#[test]
 fn a_failed_bridge_disconnects_others(rt: HostRuntime) -> Result<(), Fail> {
     let alloc = rt.alloc();
     says(
@@ -229,7 +251,7 @@ fn a_disconnected_service_does_not_survive(rt: HostRuntime) -> Result<(), Fail> 
 }
 
 #[test]
-fn a_service_is_parted_where_the_network_is_not(rt: HostRuntime) -> Result<(), Fail> {
+fn a_service_is_disconnected_where_the_network_is_not(rt: HostRuntime) -> Result<(), Fail> {
     let all = Row {
         scope: Scope::All,
         ..over_red(&networks::LISTED, LINKS, 4, texts::LISTED)
@@ -248,10 +270,10 @@ fn the_standards_network_survives_each_link(rt: HostRuntime) -> Result<(), Fail>
 }
 
 #[test]
-fn bridges_that_do_not_settle_are_told(rt: HostRuntime) -> Result<(), Fail> {
+fn bridges_that_do_not_converge_are_reported(rt: HostRuntime) -> Result<(), Fail> {
     let short = Row {
-        ticks: 2,
-        ..over_red(&networks::RING, LINKS, 4, texts::UNSETTLED)
+        ticks: 3,
+        ..over_red(&networks::RING, LINKS, 4, texts::NOT_CONVERGED)
     };
     says(&rt, rt.alloc(), &short)?;
     let unready = Row {
@@ -337,13 +359,17 @@ fn says_with_down<R: Abort + Threads + Sync>(
     rt: &R,
     alloc: Global,
     draft: &Draft<'_>,
+    kinds: Kinds,
     name: &str,
     end: SurviveEnd,
     text: &str,
 ) -> Result<(), Fail> {
     let file = plan_file(alloc, draft)?;
     let names = vec![in alloc; String::from_str(alloc, name)?]?;
-    let asked = red_without(names.as_slice());
+    let asked = Asked {
+        kinds,
+        ..red_without(names.as_slice())
+    };
     let mut output = Vec::new(alloc);
     let progress = Counted::new();
     let result = examined(rt, alloc, file.as_bytes(), &asked, &progress, &mut output);
@@ -360,6 +386,7 @@ fn what_is_down_before_is_named(rt: HostRuntime) -> Result<(), Fail> {
         &rt,
         alloc,
         &networks::RING,
+        LINKS,
         "L1",
         SurviveEnd::Parted,
         texts::RING_WITHOUT_L1,
@@ -368,6 +395,7 @@ fn what_is_down_before_is_named(rt: HostRuntime) -> Result<(), Fail> {
         &rt,
         alloc,
         &networks::PARALLEL,
+        LINKS,
         "B1:1",
         SurviveEnd::Parted,
         texts::PARALLEL_WITHOUT_AN_END,
@@ -376,9 +404,33 @@ fn what_is_down_before_is_named(rt: HostRuntime) -> Result<(), Fail> {
         &rt,
         alloc,
         &networks::RING,
+        LINKS,
         "L99",
         SurviveEnd::NoDown(DownFault::Unknown(0)),
         "",
+    )
+}
+
+#[test]
+fn the_ports_of_a_bridge_that_is_down_reach_nobody(rt: HostRuntime) -> Result<(), Fail> {
+    let alloc = rt.alloc();
+    says_with_down(
+        &rt,
+        alloc,
+        &networks::HUB,
+        BRIDGES,
+        "B1",
+        SurviveEnd::Parted,
+        texts::HUB_WITHOUT_B1,
+    )?;
+    says_with_down(
+        &rt,
+        alloc,
+        &networks::HUB,
+        BRIDGES,
+        "B2",
+        SurviveEnd::Survives,
+        texts::HUB_WITHOUT_B2,
     )
 }
 

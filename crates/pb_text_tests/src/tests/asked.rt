@@ -241,7 +241,7 @@ fn is_so(line: &CommandLine, wanted: &Wanted) -> bool {
         (Wanted::Check(path, strict), CommandLine::Check(told)) => is_check(
             told, path, *strict, None,
         ),
-        (Wanted::Settled(path, ticks), CommandLine::Check(told)) => {
+        (Wanted::Converged(path, ticks), CommandLine::Check(told)) => {
             is_check(told, path, false, Some(*ticks))
         }
         (Wanted::CheckAll(path), CommandLine::Check(told)) => is_check_of_all(told, path),

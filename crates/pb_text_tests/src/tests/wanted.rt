@@ -115,8 +115,8 @@ pub(super) enum Wanted {
     Flat(u8),
     /// A plan file, and whether warnings have an exit status of their own.
     Check(&'static str, bool),
-    /// `check --settle`: a path, and the most ticks.
-    Settled(&'static str, u32),
+    /// `check --settle` or `check --converge`: a path, and the most ticks.
+    Converged(&'static str, u32),
     /// `check --all` over this plan file.
     CheckAll(&'static str),
     Step(&'static str),

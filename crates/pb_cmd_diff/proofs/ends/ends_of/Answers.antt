@@ -11,10 +11,11 @@ returns c =
     let last = c.in_ok-net.net in
     let planned = ap (λ n. n.plan) c.in_ok-net.ensures ∙ c.requires.up.calm_plan in
     record {
-      rest = s.rest;
+      convergence = s.convergence;
       last = last;
-      calm = subst (λ ns. IsCalm plan ns s.patience.ticks s.patience.events s.rest last) c.requires.whole
-          (subst (λ n. IsCalm plan s.names.now s.patience.ticks s.patience.events s.rest n) (sym c.in_ok-net.ensures)
+      calm = subst (λ ns. IsCalm plan ns s.patience.ticks s.patience.events s.convergence last) c.requires.whole
+          (subst (λ n. IsCalm plan s.names.now s.patience.ticks s.patience.events s.convergence n)
+          (sym c.in_ok-net.ensures)
           c.requires.up.is_calm);
       planned = planned;
       lawful = subst (λ p. IsLawfulRecord spanning_tree p last.rec) planned c.in_ok-ends_in.ensures.lawful;

@@ -1,7 +1,8 @@
 use Rattle.std.proofs.Common.{◌++◌, flat_map, string_bytes, ap, ◌∙◌}
 use Rattle.pb_lan.specs.Numbering.{numbers_from}
 use Rattle.pb_plan_diff.specs.Differences.{plan_lines}
-use Rattle.pb_cmd_diff.specs.Reports.{service_lines, ends_line, rest_line, old_rest, new_rest, ticks_line}
+use Rattle.pb_cmd_diff.specs.Reports.{service_lines, ends_line, convergence_line, ticks_line}
+use Rattle.pb_cmd_diff.specs.Reports.{old_convergence, new_convergence}
 use Rattle.pb_cmd_diff.proofs.ItemLemmas.{rejoin_body}
 use Rattle.pb_cmd_diff.proofs.report.put_body.Goals as goal
 
@@ -13,11 +14,11 @@ returns c =
     let effects = c.args.effects.now in
     let services = flat_map (service_lines old new base effects) (numbers_from 1 base.services) in
     let links = flat_map (ends_line old new c.args.olds.now c.args.news.now) (numbers_from 1 old.links) in
-    let first = rest_line old new base in
-    let later = flat_map (rest_line old new) effects in
-    let ticks = ticks_line (flat_map old_rest effects) (flat_map new_rest effects) in
+    let first = convergence_line old new base in
+    let later = flat_map (convergence_line old new) effects in
+    let ticks = ticks_line (flat_map old_convergence effects) (flat_map new_convergence effects) in
     c.in_ok-put_ticks.ensures
-    ∙ ap (λ z. z ++ ticks) c.in_ok-put_rests.ensures
+    ∙ ap (λ z. z ++ ticks) c.in_ok-put_convergences.ensures
     ∙ ap (λ z. (z ++ (first ++ later)) ++ ticks) c.in_ok-put_links.ensures
     ∙ ap (λ z. ((z ++ links) ++ (first ++ later)) ++ ticks) c.in_ok-put_services.ensures
     ∙ ap (λ z. (((z ++ services) ++ links) ++ (first ++ later)) ++ ticks) c.in_ok-put_plan_diff.ensures

@@ -7,14 +7,14 @@ pub returns : goal.returns
 returns c =
     let s = c.args.standing.now in
     let net = c.in_ok-net.net in
-    let rest = c.in_ok-net.rest in
+    let convergence = c.in_ok-net.convergence in
     IfOk-weaker c.seen_in.result _ _
     (λ o seen. record {
       is_impact = record {
         failed = seen.failed;
         last = net;
         driven = subst (λ r. IsDriven s.plan.now s.names.now s.patience.ticks s.patience.events c.args.failure r net)
-            (sym seen.rested) c.in_ok-net.ensures.ok;
+            (sym seen.converged) c.in_ok-net.ensures.ok;
         planned = c.in_ok-net.ensures.plan;
         lawful = seen.lawful;
         enough = seen.enough;

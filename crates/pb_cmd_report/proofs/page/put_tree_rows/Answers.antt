@@ -26,5 +26,5 @@ returns-in-Rstp c =
       e,
       subst (λ k. AreTreesBy k s.plan.now s.names.now s.patience.ticks s.patience.events c.args.base.now trees)
           (sym c.in-Rstp.is)
-          (record { rest = s.rest; calm = s.calm; is_calm = c.requires.is_calm; rows = refl }),
+          (record { convergence = s.convergence; calm = s.calm; is_calm = c.requires.is_calm; rows = refl }),
     )) c.put_protocol.ensures

@@ -11,7 +11,7 @@ returns-clause-ok c =
     let s = c.args.standing.now in
     let down = c.take_down.new.net in
     record {
-      first = s.rest;
+      first = s.convergence;
       calm = s.calm;
       is_calm = c.requires.is_calm;
       stood = s.up;
@@ -20,6 +20,6 @@ returns-clause-ok c =
         down = down;
         set_down = subst (λ n. HaveRun n (downs s.plan.now c.args.failure) down) c.in_ok-net.ensures
             c.in_ok-take_down.ensures.ok;
-        settles = c.in_ok-rest.ensures.ok;
+        converges = c.in_ok-convergence.ensures.ok;
       };
     }

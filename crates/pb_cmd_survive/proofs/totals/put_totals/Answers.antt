@@ -1,6 +1,6 @@
 use Rattle.std.proofs.Common.{◌++◌, string_bytes, ap, ◌∙◌}
-use Rattle.pb_cmd_survive.specs.Reports.{checked_line, sparing_line, converge_line, excused_line, parting_count_line}
-use Rattle.pb_cmd_survive.specs.Reports.{looping_line, unsettled_line}
+use Rattle.pb_cmd_survive.specs.Reports.{checked_line, not_disconnecting_line, converge_line, accepted_line}
+use Rattle.pb_cmd_survive.specs.Reports.{disconnecting_line, looping_line, not_converged_line}
 use Rattle.pb_cmd_survive.proofs.ListLemmas.{rejoin_seven}
 use Rattle.pb_cmd_survive.proofs.totals.put_totals.Goals as goal
 
@@ -11,18 +11,20 @@ returns c =
     let base = c.args.base.now in
     let impacts = c.args.impacts.now in
     let checked = checked_line impacts in
-    let sparing = sparing_line criteria base impacts in
+    let not_disconnecting = not_disconnecting_line criteria base impacts in
     let converging = converge_line impacts in
-    let excused = excused_line criteria acceptances base impacts in
-    let parting = parting_count_line criteria acceptances base impacts in
+    let accepted = accepted_line criteria acceptances base impacts in
+    let disconnecting = disconnecting_line criteria acceptances base impacts in
     let looping = looping_line impacts in
-    let unsettled = unsettled_line impacts in
-    c.in_ok-put_unsettled_count.ensures
-    ∙ ap (λ z. z ++ unsettled) c.in_ok-put_looping.ensures
-    ∙ ap (λ z. (z ++ looping) ++ unsettled) c.in_ok-put_parting_count.ensures
-    ∙ ap (λ z. ((z ++ parting) ++ looping) ++ unsettled) c.in_ok-put_excused.ensures
-    ∙ ap (λ z. (((z ++ excused) ++ parting) ++ looping) ++ unsettled) c.in_ok-put_converge.ensures
-    ∙ ap (λ z. ((((z ++ converging) ++ excused) ++ parting) ++ looping) ++ unsettled) c.in_ok-put_sparing.ensures
-    ∙ ap (λ z. (((((z ++ sparing) ++ converging) ++ excused) ++ parting) ++ looping) ++ unsettled)
+    let not_converged = not_converged_line impacts in
+    c.in_ok-put_not_converged_count.ensures
+    ∙ ap (λ z. z ++ not_converged) c.in_ok-put_looping.ensures
+    ∙ ap (λ z. (z ++ looping) ++ not_converged) c.in_ok-put_disconnecting.ensures
+    ∙ ap (λ z. ((z ++ disconnecting) ++ looping) ++ not_converged) c.in_ok-put_accepted.ensures
+    ∙ ap (λ z. (((z ++ accepted) ++ disconnecting) ++ looping) ++ not_converged) c.in_ok-put_converge.ensures
+    ∙ ap (λ z. ((((z ++ converging) ++ accepted) ++ disconnecting) ++ looping) ++ not_converged)
+    c.in_ok-put_not_disconnecting.ensures
+    ∙ ap (λ z. (((((z ++ not_disconnecting) ++ converging) ++ accepted) ++ disconnecting) ++ looping) ++ not_converged)
     c.in_ok-put_checked.ensures
-    ∙ rejoin_seven (string_bytes c.args.out.now) checked sparing converging excused parting looping unsettled
+    ∙ rejoin_seven (string_bytes c.args.out.now) checked not_disconnecting converging accepted disconnecting looping
+    not_converged

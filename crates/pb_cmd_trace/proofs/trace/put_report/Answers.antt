@@ -10,7 +10,7 @@ returns c =
     let report = c.args.report.now in
     let old = string_bytes c.args.out.now in
     let lined = string_bytes c.put_lines.new.out in
-    let head = head_text report.rest in
+    let head = head_text report.convergence in
     let lines = flat_map (line_text plan) report.lines in
     let with_lines = with_piece old (string_bytes c.put_head.new.out) lined head lines c.in_ok-put_head.ensures
     (rw c.as_slice.ensures at c.in_ok-put_lines.ensures) in

@@ -17,7 +17,7 @@ returns-in_ok-record-in-Told-clause-ok c =
     let plan = c.args.plan.now in
     let entries = c.args.asked.now.entries.now in
     let t = rw c.in-Told.is at c.in_ok-round.ensures.ok in
-    let rested = c.begin.new.net in
+    let ready = c.begin.new.net in
     let planned = c.begin.ensures.plan in
     let last = c.travel.new.net in
     let rec_is = c.in_ok-record-in-Told.ensures.record in
@@ -25,13 +25,13 @@ returns-in_ok-record-in-Told-clause-ok c =
     let counted = subst (λ p. IsLawfulRecord spanning_tree p last.rec) c.travel.ensures.plan lawful in
     let lines_are = c.from_vec.ensures ∙ t.1 ∙ ap (λ z. z ++ t.0) c.new-lines.ensures.items in
     record {
-      rested = rested;
-      begun = c.in_ok-rest.ensures.ok;
+      ready = ready;
+      begun = c.in_ok-convergence.ensures.ok;
       planned = planned;
-      lawful = start_lawful plan entries c.in-Told.round rested last t.0 planned c.steps_are_lawful.ensures counted t.2;
+      lawful = start_lawful plan entries c.in-Told.round ready last t.0 planned c.steps_are_lawful.ensures counted t.2;
       shape = c.in_ok-shape.ensures;
       last = last;
-      stories = subst (HasJourneyed plan entries (Told c.in-Told.round) rested last) (sym lines_are) t.2;
+      stories = subst (HasJourneyed plan entries (Told c.in-Told.round) ready last) (sym lines_are) t.2;
       counted = counted;
       enough = subst HasEnoughMemory rec_is c.in_ok-record-in-Told.ensures.enough;
       record_is = rec_is;
@@ -42,7 +42,8 @@ returns-in_err-round-clause-err c =
     let p = err_from_is_err_and c.from_residual-in_err-round.result c.from_residual-in_err-round.ensures.1 in
     let old = c.args.net in
     let mid = c.begin.new.net in
-    let run = begun-run c.args.asked.now.settle old mid c.in_ok-rest.rest c.in_ok-rest.ensures.ok in
+    let run = begun-run c.args.asked.now.settle old mid c.in_ok-convergence.convergence
+    c.in_ok-convergence.ensures.ok in
     let fault = c.in_err-round.field-0.0 in
     let ticks = unwrap_or c.args.asked.now.settle 0 in
     let polls = length c.args.asked.now.entries.now in
@@ -54,19 +55,21 @@ returns-in_err-round-clause-err c =
 
 pub steps_are_lawful-requires : goal.steps_are_lawful-requires
 steps_are_lawful-requires c =
-    let run = begun-run c.args.asked.now.settle c.args.net c.begin.new.net c.in_ok-rest.rest c.in_ok-rest.ensures.ok in
+    let run = begun-run c.args.asked.now.settle c.args.net c.begin.new.net c.in_ok-convergence.convergence
+    c.in_ok-convergence.ensures.ok in
     done-kept c.args.net c.begin.new.net run.0 run.1 ∙ c.requires.kept
 
 pub travel-requires-clause-kept : goal.travel-requires-clause-kept
 travel-requires-clause-kept c =
-    let run = begun-run c.args.asked.now.settle c.args.net c.begin.new.net c.in_ok-rest.rest c.in_ok-rest.ensures.ok in
+    let run = begun-run c.args.asked.now.settle c.args.net c.begin.new.net c.in_ok-convergence.convergence
+    c.in_ok-convergence.ensures.ok in
     done-kept c.args.net c.begin.new.net run.0 run.1 ∙ c.requires.kept
 
 pub record_of-requires : goal.record_of-requires
 record_of-requires c =
     let t = rw c.in-Told.is at c.in_ok-round.ensures.ok in
-    let first = begun-run c.args.asked.now.settle c.args.net c.begin.new.net c.in_ok-rest.rest
-    c.in_ok-rest.ensures.ok in
+    let first = begun-run c.args.asked.now.settle c.args.net c.begin.new.net c.in_ok-convergence.convergence
+    c.in_ok-convergence.ensures.ok in
     let run = journey-done c.args.plan.now c.args.asked.now.entries.now c.in-Told.round c.begin.new.net c.travel.new.net
     t.0 t.2 in
     done-kept c.begin.new.net c.travel.new.net run.0 run.1 ∙ done-kept c.args.net c.begin.new.net first.0 first.1

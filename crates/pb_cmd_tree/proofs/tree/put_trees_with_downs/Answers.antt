@@ -8,8 +8,8 @@ use Rattle.pb_converge.specs.Drives.{AreFew, HasBroken, IsCaused}
 use Rattle.pb_converge.specs.Falls.{down_count, downs, fresh}
 use Rattle.pb_cmd_tree.proofs.tree.put_trees_with_downs.Goals as goal
 
-pub put_rested-requires-clause-plan : goal.put_rested-requires-clause-plan
-put_rested-requires-clause-plan c =
+pub put_converged-requires-clause-plan : goal.put_converged-requires-clause-plan
+put_converged-requires-clause-plan c =
     let fallen = rw c.in-None.is at c.in_ok-fault.ensures.falls in
     done-plan (fresh c.args.plan.now) c.disables.new.net (downs c.args.plan.now c.args.downs.now)
     (fallen_from c.args.plan.now c.args.downs.now c.disables.new.net c.in_ok-net.ensures c.in_ok-fault.ensures.kept
@@ -35,21 +35,21 @@ pub returns-in-Some-clause-ok : goal.returns-in-Some-clause-ok
 returns-in-Some-clause-ok c =
     ([], sym (append-nil (string_bytes c.args.out.now)), rw c.in-Some.is at c.in_ok-fault.ensures.falls)
 
-pub returns-in_err-put_rested-in-None-clause-err : goal.returns-in_err-put_rested-in-None-clause-err
-returns-in_err-put_rested-in-None-clause-err c =
-    let p = err_from_is_err_and c.from_residual-in_err-put_rested-in-None.result
-    c.from_residual-in_err-put_rested-in-None.ensures.1 in
+pub returns-in_err-put_converged-in-None-clause-err : goal.returns-in_err-put_converged-in-None-clause-err
+returns-in_err-put_converged-in-None-clause-err c =
+    let p = err_from_is_err_and c.from_residual-in_err-put_converged-in-None.result
+    c.from_residual-in_err-put_converged-in-None.ensures.1 in
     let plan = c.args.plan.now in
     let fallen = rw c.in-None.is at c.in_ok-fault.ensures.falls in
     let done = fallen_from plan c.args.downs.now c.disables.new.net c.in_ok-net.ensures c.in_ok-fault.ensures.kept
     fallen in
-    let fault = c.in_err-put_rested-in-None.field-0.0 in
+    let fault = c.in_err-put_converged-in-None.field-0.0 in
     let names = c.args.downs.now in
     let ticks = c.args.ticks in
     let count = down_count plan names in
-    let later = caused-later ticks 0 0 1000000000 fault (downs plan names) (fresh plan) c.disables.new.net (few-downs plan names)
-    done c.in_err-put_rested-in-None.ensures.err in
+    let later = caused-later ticks 0 0 1000000000 fault (downs plan names) (fresh plan) c.disables.new.net
+    (few-downs plan names) done c.in_err-put_converged-in-None.ensures.err in
     let caused : IsCaused ticks 0 count 1000000000 fault (fresh plan) =
-    caused-lower (0 + ticks) 0 (count + 0) ticks 0 count 1000000000 1000000000 fault (fresh plan) (omega arith) (omega arith) (omega arith) (omega arith) later
-    in
+    caused-lower (0 + ticks) 0 (count + 0) ticks 0 count 1000000000 1000000000 fault (fresh plan)
+    (omega arith) (omega arith) (omega arith) (omega arith) later in
     rw p.1 (subst (λ e. IsCaused ticks 0 count 1000000000 e (fresh plan)) (sym p.2) caused)

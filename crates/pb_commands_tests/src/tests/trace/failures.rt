@@ -6,7 +6,7 @@ use std::test::Fail;
 
 /// L1 is disabled, and the bridges converge over L2, as in a plan without L1.
 const FAILED_OVER: &str = "\
-settled yes ticks 2
+converged ticks 2
 in ffffffffffff02000000010108004142: polled C1 0
   B1 2 from C1, red vid 100 priority 0, source learnt, flooded: relayed 3
     B1 3 to L2, tag 88a80064 added
@@ -19,16 +19,16 @@ delivered at C2; dropped 0; refused 0; lost 0
 
 /// The bridges have ticked once. They are prompt: L1 forwards already, but convergence takes two ticks in a row.
 const TOO_FEW_TICKS: &str = "\
-settled no ticks 1
+not converged ticks 1
 in ffffffffffff02000000010108004142: polled C1 0
   B1 2 from C1, red vid 100 priority 0, source learnt, flooded: relayed 1 3
     B1 1 to L1, tag 88a80064 added
-    L1 ab: taken 5
+    L1 ab: taken 3
     B2 1 from L1, red vid 100 priority 0, source learnt, flooded: relayed 2
       B2 2 to C2, tag removed
       C2: delivered ffffffffffff02000000010108004142
     B1 3 to L2, tag 88a80064 added
-    L2 ab: taken 4
+    L2 ab: taken 3
     B2 3 from L2, red vid 100 priority 0: dropped: not-forwarding
 delivered at C2; dropped 1; refused 0; lost 0
 ";

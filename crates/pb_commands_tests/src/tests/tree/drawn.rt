@@ -134,7 +134,7 @@ link = [\n\
 ";
 
 pub(super) const ONE_TREES: &str = "\
-settled yes ticks 2\n\
+converged ticks 2\n\
 bridge B0 root B0 cost 0\n\
 port B0 1 link a designated forwarding cost 200000 from B0\n\
 port B0 2 link b designated forwarding cost 200000 from B0\n\
@@ -147,7 +147,7 @@ port B2 2 link c alternate discarding cost 200000 from B1\n\
 forest yes\n";
 
 pub(super) const ONE_DOWN_TREES: &str = "\
-settled yes ticks 2\n\
+converged ticks 2\n\
 bridge B0 root B0 cost 0\n\
 port B0 1 link a designated forwarding cost 200000 from B0\n\
 port B0 2 link b designated discarding cost 200000 from B0\n\
@@ -161,7 +161,7 @@ forest yes\n";
 
 /// The trees of `ONE` without the link b.
 pub(super) const ONE_LINK_TREES: &str = "\
-settled yes ticks 2\n\
+converged ticks 2\n\
 bridge B0 root B0 cost 0\n\
 port B0 1 link a designated forwarding cost 200000 from B0\n\
 port B0 2 link b disabled discarding cost 200000 from B0\n\
@@ -175,7 +175,7 @@ forest yes\n";
 
 /// The trees of `ONE` without the links a and c of the bridge B1, which is its own root.
 pub(super) const ONE_BRIDGE_TREES: &str = "\
-settled yes ticks 2\n\
+converged ticks 2\n\
 bridge B0 root B0 cost 0\n\
 port B0 1 link a disabled discarding cost 200000 from B0\n\
 port B0 2 link b designated forwarding cost 200000 from B0\n\
@@ -188,7 +188,7 @@ port B2 2 link c disabled discarding cost 200000 from B2\n\
 forest yes\n";
 
 pub(super) const TWO_TREES: &str = "\
-settled yes ticks 2\n\
+converged ticks 2\n\
 bridge B0 root B0 cost 0\n\
 port B0 1 link a designated forwarding cost 200000 from B0\n\
 port B0 2 link b designated forwarding cost 200000 from B0\n\
@@ -209,7 +209,7 @@ port B4 2 link f alternate discarding cost 200000 from B3\n\
 forest yes\n";
 
 pub(super) const TWO_DOWN_TREES: &str = "\
-settled yes ticks 2\n\
+converged ticks 2\n\
 bridge B0 root B0 cost 0\n\
 port B0 1 link a designated forwarding cost 200000 from B0\n\
 port B0 2 link b designated discarding cost 200000 from B0\n\
@@ -230,7 +230,7 @@ port B4 2 link f alternate discarding cost 200000 from B3\n\
 forest yes\n";
 
 pub(super) const TWO_BOTH_TREES: &str = "\
-settled yes ticks 2\n\
+converged ticks 2\n\
 bridge B0 root B0 cost 0\n\
 port B0 1 link a designated forwarding cost 200000 from B0\n\
 port B0 2 link b designated discarding cost 200000 from B0\n\
@@ -251,7 +251,7 @@ port B4 2 link f root forwarding cost 200000 from B3\n\
 forest yes\n";
 
 pub(super) const FIGURE_4_TREES: &str = "\
-settled yes ticks 2\n\
+converged ticks 2\n\
 bridge B0 root B0 cost 0\n\
 port B0 1 link a designated forwarding cost 200000 from B0\n\
 port B0 2 link b designated forwarding cost 200000 from B0\n\
@@ -291,7 +291,7 @@ port B7 2 link n alternate discarding cost 200000 from B3\n\
 forest yes\n";
 
 pub(super) const FIGURE_5_TREES: &str = "\
-settled yes ticks 2\n\
+converged ticks 2\n\
 bridge B0 root B0 cost 0\n\
 port B0 1 link a designated forwarding cost 200000 from B0\n\
 port B0 2 link b designated forwarding cost 200000 from B0\n\
@@ -333,7 +333,7 @@ port B7 4 link o backup discarding cost 200000 from B7\n\
 forest yes\n";
 
 pub(super) const FIGURE_6_TREES: &str = "\
-settled yes ticks 2\n\
+converged ticks 3\n\
 bridge B0 root B0 cost 0\n\
 port B0 2 link b designated forwarding cost 200000 from B0\n\
 port B0 3 link l designated forwarding cost 200000 from B0\n\
@@ -355,7 +355,7 @@ port B5 2 link j designated forwarding cost 200000 from B5\n\
 forest yes\n";
 
 pub(super) const FIGURE_7_TREES: &str = "\
-settled yes ticks 2\n\
+converged ticks 2\n\
 bridge B0 root B0 cost 0\n\
 port B0 1 link b designated forwarding cost 200000 from B0\n\
 bridge B1 root B0 cost 200000 port 2\n\

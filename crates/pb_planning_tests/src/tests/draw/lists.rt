@@ -2,7 +2,7 @@
 
 use super::plans::Piece;
 use super::{DOT, Row, SVG, draws};
-use pb_cmd_draw::{DrawEnd, Rest};
+use pb_cmd_draw::{Convergence, DrawEnd};
 use std::test::Fail;
 
 /// Bridges in a line, whose links have lists: both ends the same short one, both the same long one, two lists, one list
@@ -78,13 +78,13 @@ fn lists_are_drawn(rt: HostRuntime) -> Result<(), Fail> {
         (
             LISTS,
             (None, &[], 200, SVG),
-            DrawEnd::Drawn(Rest::Given),
+            DrawEnd::Drawn(Convergence::Given),
             SVG_PIECES,
         ),
         (
             LISTS,
             (None, &[], 200, DOT),
-            DrawEnd::Drawn(Rest::Given),
+            DrawEnd::Drawn(Convergence::Given),
             DOT_PIECES,
         ),
     ];
@@ -96,7 +96,7 @@ fn lists_are_drawn_on_demand_alone(rt: HostRuntime) -> Result<(), Fail> {
     const ROWS: &[Row] = &[(
         LISTS,
         (None, &[], 200, SVG),
-        DrawEnd::Drawn(Rest::Given),
+        DrawEnd::Drawn(Convergence::Given),
         NO_PIECES,
     )];
     draws(&rt, rt.alloc(), false, ROWS)

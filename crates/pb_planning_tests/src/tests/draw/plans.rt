@@ -279,7 +279,7 @@ pub(super) const RING_PIECES: &[Piece] = &[
 ];
 
 /// Before the first tick every port is Discarding, and each bridge is the root of its own tree.
-pub(super) const UNSETTLED_PIECES: &[Piece] = &[
+pub(super) const NOT_CONVERGED_PIECES: &[Piece] = &[
     ("class=\"discarding\" data-", 6),
     ("class=\"link standby plain\"", 3),
     ("data-role=\"root\"", 3),

@@ -107,43 +107,43 @@ fn over<'a>(draft: &'a Draft<'a>, accept: &'a str, status: u8, text: &'a str) ->
 }
 
 /// The failure of `L4` is accepted.
-const EXCUSED: &str = "\
-nothing down: settled ticks 2 forest yes\n\
+const ACCEPTED: &str = "\
+nothing down: converged ticks 2 forest yes\n\
 \x20 service red: C1 C2\n\
 \x20 service blue: C3 C4\n\
 healthy with nothing down\n\
-accepted link L4 down: settled ticks 2 forest yes\n\
+accepted link L4 down: converged ticks 2 forest yes\n\
 \x20 service red: C1 | C2\n\
 checked 4 links\n\
 3 of 4 failures disconnect nothing\n\
 converges within 3 ticks\n\
 1 of 4 failures are accepted\n\
-survives every failure that is not accepted\n";
+survives the failure of any one link, but for accepted disconnections\n";
 
 /// The same with harmless failures.
 const ALL: &str = "\
-nothing down: settled ticks 2 forest yes\n\
+nothing down: converged ticks 2 forest yes\n\
 \x20 service red: C1 C2\n\
 \x20 service blue: C3 C4\n\
 healthy with nothing down\n\
-link L1 down: settled ticks 3 forest yes\n\
-link L2 down: settled ticks 2 forest yes\n\
-link L3 down: settled ticks 2 forest yes\n\
-accepted link L4 down: settled ticks 2 forest yes\n\
+link L1 down: converged ticks 3 forest yes\n\
+link L2 down: converged ticks 2 forest yes\n\
+link L3 down: converged ticks 2 forest yes\n\
+accepted link L4 down: converged ticks 2 forest yes\n\
 \x20 service red: C1 | C2\n\
 checked 4 links\n\
 3 of 4 failures disconnect nothing\n\
 converges within 3 ticks\n\
 1 of 4 failures are accepted\n\
-survives every failure that is not accepted\n";
+survives the failure of any one link, but for accepted disconnections\n";
 
 /// The failure of `L4` is not accepted.
 const HARMED: &str = "\
-nothing down: settled ticks 2 forest yes\n\
+nothing down: converged ticks 2 forest yes\n\
 \x20 service red: C1 C2\n\
 \x20 service blue: C3 C4\n\
 healthy with nothing down\n\
-link L4 down: settled ticks 2 forest yes\n\
+link L4 down: converged ticks 2 forest yes\n\
 \x20 service red: C1 | C2\n\
 checked 4 links\n\
 3 of 4 failures disconnect nothing\n\
@@ -152,11 +152,11 @@ converges within 3 ticks\n\
 
 /// The same, with the acceptance of another service.
 const OTHER: &str = "\
-nothing down: settled ticks 2 forest yes\n\
+nothing down: converged ticks 2 forest yes\n\
 \x20 service red: C1 C2\n\
 \x20 service blue: C3 C4\n\
 healthy with nothing down\n\
-link L4 down: settled ticks 2 forest yes\n\
+link L4 down: converged ticks 2 forest yes\n\
 \x20 service red: C1 | C2\n\
 checked 4 links\n\
 3 of 4 failures disconnect nothing\n\
@@ -166,7 +166,7 @@ stale acceptance: link L4 service blue\n";
 
 /// With a second link nothing is disconnected.
 const STALE: &str = "\
-nothing down: settled ticks 2 forest yes\n\
+nothing down: converged ticks 2 forest yes\n\
 \x20 service red: C1 C2\n\
 \x20 service blue: C3 C4\n\
 healthy with nothing down\n\
@@ -176,15 +176,19 @@ converges within 3 ticks\n\
 stale acceptance: link L4\n\
 untried acceptance: bridge B4 service red\n\
 untried acceptance: links L4 L5\n\
-survives every single failure\n";
+survives the failure of any one link\n";
 
 #[test]
 fn an_accepted_failure_changes_no_status(rt: HostRuntime) -> Result<(), Fail> {
     let alloc = rt.alloc();
     for (accept, status, text) in [
         ("", 4, HARMED),
-        ("[[accept]]\nlink = \"L4\"\n", 0, EXCUSED),
-        ("[[accept]]\nlink = \"L4\"\nservice = \"red\"\n", 0, EXCUSED),
+        ("[[accept]]\nlink = \"L4\"\n", 0, ACCEPTED),
+        (
+            "[[accept]]\nlink = \"L4\"\nservice = \"red\"\n",
+            0,
+            ACCEPTED,
+        ),
         ("[[accept]]\nlink = \"L4\"\nservice = \"blue\"\n", 4, OTHER),
     ] {
         says(&rt, alloc, &over(&LEAF, accept, status, text))?;
@@ -244,7 +248,7 @@ fn harmless_failures_are_listed_on_request(rt: HostRuntime) -> Result<(), Fail> 
 
 /// The bridge `B1` at which `L4` ends fails.
 const BRIDGE: &str = "\
-nothing down: settled ticks 2 forest yes\n\
+nothing down: converged ticks 2 forest yes\n\
 \x20 service blue: C3 C4\n\
 healthy with nothing down\n\
 checked 4 links, 4 bridges\n\
@@ -252,7 +256,7 @@ checked 4 links, 4 bridges\n\
 converges within 3 ticks\n\
 untried acceptance: link L4\n\
 stale acceptance: bridge B4 service blue\n\
-survives every single failure\n";
+survives the failure of any one link or bridge\n";
 
 #[test]
 fn what_was_not_analysed_is_not_stale(rt: HostRuntime) -> Result<(), Fail> {

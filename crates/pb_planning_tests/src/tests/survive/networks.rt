@@ -52,6 +52,34 @@ pub(super) const PARALLEL: Draft = Draft {
     stubs: &[Stub((1, 3), "red"), Stub((2, 3), "red")],
 };
 
+/// Two bridges with two links between them, and both customer ports at the first.
+pub(super) const HUB: Draft = Draft {
+    network: RSTP,
+    bridges: 2,
+    wires: &[Wire((1, 1), (2, 1), ""), Wire((1, 2), (2, 2), "")],
+    stubs: &[Stub((1, 3), "red"), Stub((1, 4), "red")],
+};
+
+/// Four bridges of which each has a link to each other.
+pub(super) const MESH: Draft = Draft {
+    network: RSTP,
+    bridges: 4,
+    wires: &[
+        Wire((1, 1), (2, 1), ""),
+        Wire((1, 2), (3, 1), ""),
+        Wire((1, 3), (4, 1), ""),
+        Wire((2, 2), (3, 2), ""),
+        Wire((2, 3), (4, 2), ""),
+        Wire((3, 3), (4, 3), ""),
+    ],
+    stubs: &[
+        Stub((1, 4), "red"),
+        Stub((2, 4), "red"),
+        Stub((3, 4), "red"),
+        Stub((4, 4), "red"),
+    ],
+};
+
 /// A bridge with links to three others. The plan gives the states.
 pub(super) const STAR: Draft = Draft {
     network: "",

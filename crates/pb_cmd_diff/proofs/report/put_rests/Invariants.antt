@@ -1,8 +1,0 @@
-use Rattle.std.proofs.Common.{◌≡◌, ◌++◌, drop, flat_map, string_bytes}
-use Rattle.pb_cmd_diff.specs.Reports.{rest_line}
-use Rattle.pb_cmd_diff.proofs.report.put_rests.Given as goal
-
-abbrev pub invariant-loop-effect : goal.invariant-loop-effect
-invariant-loop-effect l =
-    string_bytes l.out ++ flat_map (rest_line l.old l.new) (drop l.effect-index l.effects)
-    ≡ string_bytes l.initial.out ++ flat_map (rest_line l.old l.new) l.effects
