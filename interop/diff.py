@@ -4,7 +4,7 @@ and the rules of docs/COMMANDS.md written anew.
 
 usage: interop/diff.py [--program FILE] [--pairs N] [--seed N]
 
-The second plan is the first one with random changes, and its tables in another order. Half of the pairs give the states of
+The second plan is the first one with random changes, and its tables in another order. A third of the pairs give the states of
 ports. What differs is printed with both plans, with exit status 1."""
 import argparse
 import copy
@@ -16,171 +16,12 @@ import tempfile
 
 import common
 from second_network import EndsEarly, Network
+from random_plans import STATES, Draft
 from second_plan import read_plan
 from second_tree import FORWARDING
 
-STATES = ["discarding", "learning", "forwarding"]
 KEYS = ("spanning", "prompt", "queues", "ageing", "ring", "steps")
 MOST_ROUNDS, STANDING = 200, 60
-
-
-class Draft:
-    """A random plan as tables of keys."""
-
-    def __init__(self, dice):
-        self.dice = dice
-        self.network = {"spanning": dice.choice(["fixed", "rstp"])}
-        if self.network["spanning"] == "rstp" and dice.random() < 0.7:
-            self.network["prompt"] = True
-        if dice.random() < 0.4:
-            self.network["queues"] = dice.choice(["port", "class"])
-        self.bridge, self.link, self.service, self.port = [], [], [], []
-        self.named = itertools.count(1)
-        for _ in range(dice.randint(2, 6)):
-            self.add_bridge()
-        for _ in range(dice.choice([1, 1, 2, 3])):
-            self.add_service()
-        for _ in range(dice.randint(1, 8)):
-            self.add_link()
-        for _ in range(dice.randint(1, 8)):
-            self.add_port()
-
-    def free(self, bridge):
-        """A free local port of a bridge, or None."""
-        used = {(t[s], t[s + "_port"]) for t in self.link for s in "ab"} | {(t["bridge"], t["port"]) for t in self.port}
-        ports = [n for n in range(1, 17) if (bridge, n) not in used]
-        return self.dice.choice(ports) if ports else None
-
-    def add_bridge(self):
-        number = next(self.named)
-        row = {"name": f"B{number}", "address": f"02-00-00-00-00-{number:02X}"}
-        if self.dice.random() < 0.2:
-            row["priority"] = 4096 * self.dice.randint(0, 15)
-        self.bridge.append(row)
-
-    def add_service(self):
-        number = next(self.named)
-        self.service.append({"name": f"S{number}", "vid": 100 + number})
-
-    def add_link(self):
-        if len(self.bridge) < 2:
-            return
-        a, b = self.dice.sample([row["name"] for row in self.bridge], 2)
-        ports = self.free(a), self.free(b)
-        if None in ports:
-            return
-        row = {"name": f"L{next(self.named)}", "a": a, "a_port": ports[0], "b": b, "b_port": ports[1]}
-        if self.dice.random() < 0.3:
-            self.alter_services(row)
-        if self.network["spanning"] == "fixed" and self.dice.random() < 0.3:
-            row["b_state"] = self.dice.choice(STATES)
-        if self.dice.random() < 0.1:
-            row["a_cost"] = self.dice.randint(1, 50000)
-        self.link.append(row)
-
-    def alter_services(self, row):
-        names = [s["name"] for s in self.service]
-        row[self.dice.choice("ab") + "_services"] = self.dice.sample(names, self.dice.randint(0, len(names)))
-
-    def add_port(self):
-        bridge = self.dice.choice(self.bridge)["name"]
-        port = self.free(bridge)
-        if port and self.service:
-            service = self.dice.choice(self.service)["name"]
-            self.port.append({"name": f"C{next(self.named)}", "bridge": bridge, "port": port, "service": service})
-
-    def remove(self, rows):
-        if rows:
-            rows.remove(self.dice.choice(rows))
-
-    def remove_bridge(self):
-        if len(self.bridge) > 1:
-            gone = self.dice.choice(self.bridge)
-            self.bridge.remove(gone)
-            self.link = [t for t in self.link if gone["name"] not in (t["a"], t["b"])]
-            self.port = [t for t in self.port if t["bridge"] != gone["name"]]
-
-    def rename_bridge(self):
-        row = self.dice.choice(self.bridge)
-        was, row["name"] = row["name"], f"B{next(self.named)}"
-        for table in self.link:
-            for side in "ab":
-                if table[side] == was:
-                    table[side] = row["name"]
-        for table in self.port:
-            if table["bridge"] == was:
-                table["bridge"] = row["name"]
-
-    def remove_service(self):
-        if len(self.service) > 1:
-            gone = self.dice.choice(self.service)
-            self.service.remove(gone)
-            self.port = [t for t in self.port if t["service"] != gone["name"]]
-            for table in self.link:
-                for side in "ab":
-                    listed = table.get(side + "_services")
-                    if listed and gone["name"] in listed:
-                        listed.remove(gone["name"])
-
-    def move_port(self):
-        if self.port:
-            row = self.dice.choice(self.port)
-            bridge = self.dice.choice(self.bridge)["name"]
-            port = self.free(bridge)
-            if port:
-                row["bridge"], row["port"] = bridge, port
-
-    def alter_link(self):
-        if self.link:
-            row = self.dice.choice(self.link)
-            if self.network["spanning"] == "fixed" and self.dice.random() < 0.5:
-                row[self.dice.choice("ab") + "_state"] = self.dice.choice(STATES)
-            elif self.dice.random() < 0.3:
-                row[self.dice.choice("ab") + "_cost"] = self.dice.randint(1, 50000)
-            else:
-                self.alter_services(row)
-
-    def alter_queues(self):
-        self.network["queues"] = self.dice.choice(["port", "class"])
-
-    def alter_port(self):
-        if self.port:
-            self.dice.choice(self.port)["service"] = self.dice.choice(self.service)["name"]
-
-    def change(self):
-        changes = [self.add_link, self.add_link, self.alter_link, self.alter_link, self.add_port, self.add_bridge]
-        changes += [self.move_port, self.alter_port, self.rename_bridge, self.remove_bridge, self.remove_service]
-        changes += [self.add_service, lambda: self.remove(self.link), lambda: self.remove(self.port), self.alter_queues]
-        self.dice.choice(changes)()
-
-    def changed(self):
-        """A copy with other parts and another order."""
-        dice, self.dice = self.dice, None
-        other = copy.deepcopy(self)
-        self.dice = other.dice = dice
-        other.named = itertools.count(50)
-        for _ in range(dice.choice([0, 1, 1, 2, 3])):
-            other.change()
-        if dice.random() < 0.5:
-            for rows in (other.bridge, other.link, other.service, other.port):
-                dice.shuffle(rows)
-        return other
-
-    def text(self):
-        """The plan file."""
-        lines = ["[network]"] + [f"{key} = {value_text(value)}" for key, value in self.network.items()]
-        for name in ("bridge", "link", "service", "port"):
-            for row in getattr(self, name):
-                lines += [f"[[{name}]]"] + [f"{key} = {value_text(value)}" for key, value in row.items()]
-        return "\n".join(lines) + "\n"
-
-
-def value_text(value):
-    if isinstance(value, bool):
-        return "true" if value else "false"
-    if isinstance(value, list):
-        return "[" + ", ".join(map(value_text, value)) + "]"
-    return f'"{value}"' if isinstance(value, str) else str(value)
 
 
 # The differences of the plans
@@ -245,14 +86,14 @@ class Driven:
 
     def __init__(self, plan, net, failure=frozenset()):
         self.plan, self.net = plan, net
-        self.settled = self.settle() if not failure else None
+        self.converged = self.converge() if not failure else None
         self.out = {name for kind, name in failure if kind == "bridge"}
         for link in plan.links:
             if self.is_hit(link, failure):
                 for end in (link["end_a"], link["end_b"]):
                     net.by_number[end.bridge].admin(end.port, False)
         if failure:
-            self.settled = self.settle()
+            self.converged = self.converge()
 
     def after(self, failure):
         """The network that was up for 60 ticks, under a failure."""
@@ -268,14 +109,14 @@ class Driven:
     def is_hit(self, link, failure):
         return ("link", link["name"]) in failure or any(("bridge", link[side]) in failure for side in "ab")
 
-    def settle(self):
-        """Whether the bridges converge: they are settled after two rounds in a row."""
+    def converge(self):
+        """Whether the bridges converge: they have converged after two rounds in a row."""
         if not self.plan.rstp:
             return True
         before = False
         for ticks in range(MOST_ROUNDS):
             self.round()
-            now = self.net.are_settled()
+            now = self.net.have_converged()
             if before and now:
                 self.ticks = ticks + 1
                 return True
@@ -371,16 +212,21 @@ def parted(was, now, order):
 
 def most_ticks(networks):
     """The most ticks until bridges converged after a failure of the plan, or `none`."""
-    ticks = [network.ticks for network in networks if network.plan.rstp and network.settled]
+    ticks = [network.ticks for network in networks if network.plan.rstp and network.converged]
     return max(ticks, default="none")
 
 
-def report(old, new, bridges, pairs, service):
-    """What is to be printed, and the exit status."""
+def begin(plan):
+    """Drives a plan's network to convergence."""
+    return Driven(plan, Network(plan))
+
+
+def report(old, new, bridges, pairs, service, conclude=begin):
+    """What is to be printed, and the exit status. `conclude` returns what is known of a plan's network."""
     cases = [(old, f) for f in failures(old, bridges, pairs)]
     cases += [(new, f) for f in failures(new, bridges, pairs) if not all(has(old, part) for part in f)]
     cases = [(old, frozenset())] + cases
-    calms, driven = [Driven(plan, Network(plan)) for plan in (old, new)], []
+    calms, driven = [conclude(plan) for plan in (old, new)], []
     for plan, failure in cases:
         text = failure_text(plan, failure)
         both = [calm.after(frozenset(part for part in failure if has(calm.plan, part))) for calm in calms]
@@ -406,9 +252,9 @@ def report(old, new, bridges, pairs, service):
         if name in now and now[name] != ends:
             lines.append(f"link {name} with nothing down: {ends} -> {now[name]}")
     for number, (text, (was, now)) in enumerate(driven):
-        if was.settled != now.settled:
-            (better if now.settled else worse).add(number)
-            lines.append(f"{text}: bridges {'now' if now.settled else 'no longer'} converge")
+        if was.converged != now.converged:
+            (better if now.converged else worse).add(number)
+            lines.append(f"{text}: bridges {'now' if now.converged else 'no longer'} converge")
     most = [most_ticks(both[side] for _, both in driven if both[side] is not calm) for side, calm in enumerate(calms)]
     if most[0] != most[1]:
         lines.append(f"most ticks to convergence: {most[0]} -> {most[1]}")
@@ -422,7 +268,7 @@ def report(old, new, bridges, pairs, service):
 
 def compare(program, dice, folder):
     """What differs, or None."""
-    first = Draft(dice)
+    first = Draft(dice, 6, 8)
     second = first.changed()
     bridges, pairs = dice.random() < 0.3, dice.random() < 0.2
     service = dice.choice(first.service)["name"] if dice.random() < 0.2 else None

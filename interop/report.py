@@ -59,7 +59,7 @@ def rows_of(page, table):
 
 def rest_of(words):
     """Returns the cell of how the bridges converged, for the words of `survive`."""
-    for pattern, cell in ((r"settled ticks (\d+)", r"\1 s"), (r"not settled ticks (\d+)", r"not in \1 s")):
+    for pattern, cell in ((r"converged ticks (\d+)", r"\1 s"), (r"not converged ticks (\d+)", r"not in \1 s")):
         if re.fullmatch(pattern, words):
             return re.sub(pattern, cell, words)
     return words

@@ -6,7 +6,7 @@ It is slow and plain: a queue is a list, a learning table is a dictionary, and n
 import re
 
 from second_plan import Fault, read_plan
-from second_tree import DISCARDING, FORWARDING, LEARNING, Message, Tree, are_settled
+from second_tree import DISCARDING, FORWARDING, LEARNING, Message, Tree, are_settled, have_converged
 
 STATES = {"discarding": DISCARDING, "learning": LEARNING, "forwarding": FORWARDING}
 PROVIDER = bytes.fromhex("0180c2000008")
@@ -366,9 +366,15 @@ class Network:
             lines.append("settled yes" if self.are_settled() else "settled no")
         return lines
 
-    def are_settled(self):
+    def trees_and_links(self):
         ends = [((x["end_a"].bridge, x["end_a"].port), (x["end_b"].bridge, x["end_b"].port)) for x in self.plan.links]
-        return are_settled([bridge.tree for bridge in self.by_number], ends)
+        return [bridge.tree for bridge in self.by_number], ends
+
+    def are_settled(self):
+        return are_settled(*self.trees_and_links())
+
+    def have_converged(self):
+        return have_converged(*self.trees_and_links())
 
     # Lines of a script
 

@@ -391,6 +391,8 @@ def read_plan(octets):
     document = read_document(octets)
     if has_wide_number(document):
         raise Fault("2 toml")
+    # (only `survive` checks these tables)
+    document.pop("accept", None)
     unknown = sorted((key for key in document if key not in KEYS), key=str.encode)
     if unknown:
         raise Fault(f"6 unknown {unknown[0]}")

@@ -7,6 +7,7 @@ DISABLED, ROOT, DESIGNATED, ALTERNATE, BACKUP = "disabled", "root", "designated"
 ROLE_BITS = {ALTERNATE: 1, BACKUP: 1, ROOT: 2, DESIGNATED: 3}
 HIGHEST_COST = 4294967295
 HELLO, MAX_AGE, FORWARD_DELAY = 2 * 256, 20 * 256, 15 * 256
+HOLD_COUNT = 6
 
 
 @dataclass(frozen=True)
@@ -230,12 +231,16 @@ class Tree:
         for number, port in self.ports.items():
             if port is not kept:
                 change.flushed.add(number)
-            if port is not silent and port.role in (ROOT, DESIGNATED):
+            if port is not silent and port.role in (ROOT, DESIGNATED) and not self.is_reporting(port):
                 port.changing, port.due = 3, True
+
+    def is_reporting(self, port):
+        """Whether the port reports a topology change already. A prompt bridge leaves its time alone then."""
+        return self.prompt and port.changing > 0
 
     def send(self, change):
         for number, port in self.ports.items():
-            if port.up and port.due and port.sent < 6:
+            if port.up and port.due and port.sent < HOLD_COUNT:
                 port.sent, port.due = port.sent + 1, False
                 change.messages.append((number, self.message(port)))
 
@@ -260,19 +265,39 @@ class Tree:
 
 
 def are_settled(trees, links):
-    """Returns whether each link with both ends enabled has one Designated end, whose vector the other end stores, and an
-    end that is enabled alone is Designated."""
-    for (one, at_one), (two, at_two) in links:
-        ends = [(trees[one], trees[one].ports[at_one]), (trees[two], trees[two].ports[at_two])]
-        enabled = [port for _, port in ends if port.up]
-        if len(enabled) < 2:
-            if any(port.role != DESIGNATED for port in enabled):
+    """Returns whether each port has the role that follows from the vectors, only Root and Designated ports do more than
+    discard, and each link with both ends enabled has one Designated end, whose vector the other end stores."""
+    for tree in trees:
+        for port in tree.ports.values():
+            if port.role != tree.role_of(port) or port.role not in (ROOT, DESIGNATED) and port.state != DISCARDING:
                 return False
-            continue
-        designated = [port.role == DESIGNATED for _, port in ends]
-        if designated.count(True) != 1:
-            return False
-        (tree, port), (_, other) = ends if designated[0] else reversed(ends)
-        if not other.info or other.info.vector() != tree.designated(port):
-            return False
-    return True
+    return all(is_settled_link(*ends) for ends in places_of(trees, links))
+
+
+def places_of(trees, links):
+    """Returns, for each link, the bridge and the port of both ends."""
+    return [[(trees[bridge], trees[bridge].ports[number]) for bridge, number in link] for link in links]
+
+
+def is_settled_link(one, two):
+    if not (one[1].up and two[1].up):
+        return True
+    leading = [place for place in (one, two) if place[1].role == DESIGNATED]
+    if len(leading) != 1:
+        return False
+    tree, port = leading[0]
+    info = (two if tree is one[0] and port is one[1] else one)[1].info
+    return info is not None and info.vector() == tree.designated(port)
+
+
+def have_converged(trees, links):
+    """Returns whether the bridges are settled, an end that is enabled alone is Designated, and both ends of each
+    enabled link with a Root port are Forwarding."""
+    return are_settled(trees, links) and all(is_converged_link(a, b) for (_, a), (_, b) in places_of(trees, links))
+
+
+def is_converged_link(one, two):
+    enabled = [port for port in (one, two) if port.up]
+    if len(enabled) < 2:
+        return all(port.role == DESIGNATED for port in enabled)
+    return ROOT not in (one.role, two.role) or one.state == two.state == FORWARDING

@@ -11,7 +11,7 @@ from hostile_parts.attack import PLAIN, PROGRAM, crash
 # What a command prints if an allocation failed: while a plan was read, and otherwise.
 LACKS = ("plan: 11 memory\nfault: memory", "fault: memory")
 # The titles of the tables, which have no place for a fault.
-TITLES = ("down,name,other,settled,ticks,forest,accepted", "kind,name,direction,entered,left,filtered,taken,lost")
+TITLES = ("down,name,other,converged,ticks,forest,accepted", "kind,name,direction,entered,left,filtered,taken,lost")
 SOURCE = common.TOP / "scripts" / "refuse.c"
 
 
