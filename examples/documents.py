@@ -62,10 +62,10 @@ LOOP = rf"loop (?P<service>{NAME})"
 PLAN_FAULT = r"plan: (?P<rule>\d+) (?P<fault>\S+)(?: (?P<name>.*))?"
 FAULT = r"fault: (?P<fault>.*)"
 SETTLED = r"settled (?P<settled>yes|no)"
-SETTLED_AFTER = r"settled (?P<settled>yes|no) ticks (?P<ticks>\d+)"
+CONVERGED_AFTER = r"(?P<convergence>converged|not converged) ticks (?P<ticks>\d+)"
 PORT = rf"port (?P<name>{NAME}) entered (?P<entered>\d+) left (?P<left>\d+) filtered (?P<filtered>\d+)"
 LINK = rf"link (?P<name>{NAME}) ab taken (?P<ab_taken>\d+) lost (?P<ab_lost>\d+) ba taken (?P<ba_taken>\d+) lost (?P<ba_lost>\d+)"
-REST = r"(?:(?P<rest>settled|not settled) ticks (?P<ticks>\d+)|states given) forest (?P<forest>yes|no)"
+CONVERGENCE = r"(?:(?P<convergence>converged|not converged) ticks (?P<ticks>\d+)|states given) forest (?P<forest>yes|no)"
 ONE_DOWN = rf"(?P<down>link|bridge) (?P<name>{NAME})(?: service (?P<service>{NAME}))?"
 TWO_DOWN = rf"(?P<down>links) (?P<name>{NAME}) (?P<other>{NAME})(?: service (?P<service>{NAME}))?"
 
@@ -111,7 +111,7 @@ LINES = {
     ],
     "step": [("ports", PORT, {}), ("links", LINK, {}), *FORESTS, ("", SETTLED, {}), *ENDS, ("answers", r"(?P<answer>.*)", {})],
     "tree": [
-        ("", SETTLED_AFTER, {}),
+        ("", CONVERGED_AFTER, {}),
         ("bridges", rf"bridge (?P<name>{NAME})(?: root (?P<root>{NAME}) cost (?P<cost>\d+)(?: port (?P<root_port>\d+))?)?", {}),
         ("ports", rf"port (?P<bridge>{NAME}) (?P<port_number>\d+) link (?P<link>{NAME})(?: (?P<role>\w+))? (?P<state>\w+)(?: cost (?P<cost>\d+) from (?P<from>{NAME}))?", {}),
         ("branches", rf"service (?P<service>{NAME}) bridge (?P<bridge>{NAME}) up (?P<up>{NAME}) depth (?P<depth>\d+)", {}),
@@ -119,8 +119,8 @@ LINES = {
     ],
     "survive": [
         ("", r"down:(?P<downs>(?: \S+)+)", {}),
-        ("nothing_down", rf"nothing (?:else )?down: {REST}", {}),
-        *[("failures", rf"{lead}{what} down: {REST}", besides)
+        ("nothing_down", rf"nothing (?:else )?down: {CONVERGENCE}", {}),
+        *[("failures", rf"{lead}{what} down: {CONVERGENCE}", besides)
             for lead, besides in (("", {}), ("accepted ", {"accepted": True}))
             for what in (rf"(?P<down>link|bridge) (?P<name>{NAME})", rf"(?P<down>links) (?P<name>{NAME}) (?P<other>{NAME})")],
         ("loops", rf"  loop (?P<name>{NAME})", {}),
@@ -141,7 +141,7 @@ LINES = {
         ("", r"(?P<form_a_loop>\d+) of (?P<failures_tried>\d+) failures form a forwarding loop", {"survives": False}),
         ("", r"(?P<do_not_converge>\d+) of (?P<failures_tried>\d+) failures do not converge", {"survives": False}),
         ("acceptances", r"(?P<state>stale|untried) acceptance: (?P<accepts>.*)", {}),
-        ("", r"survives every (?:single failure|failure that is not accepted)", {"survives": True}),
+        ("", r"survives the failure of (?P<tried>.+)", {"survives": True}),
         ("no_such", rf"no such service (?P<service>.*)", {}), ("no_such", rf"no such port (?P<port>.*)", {}), *ENDS,
     ],
     "diff": [
@@ -160,7 +160,7 @@ LINES = {
         ("no_such", rf"no such service (?P<service>.*)", {}), *ENDS,
     ],
     "trace": [
-        ("", SETTLED_AFTER, {}),
+        ("", CONVERGED_AFTER, {}),
         ("frames", rf"in (?P<frame>[0-9a-f]+): polled (?P<port>{NAME}) (?P<number>\d+)", {}),
         ("hops", HOP + r"relayed(?P<relayed_to>(?: \d+)*)(?P<no_room>(?: (?:full|memory) \d+)*)", {"event": "received", "outcome": "relayed"}),
         ("hops", HOP + r"dropped: (?P<reason>.*)", {"event": "received", "outcome": "dropped"}),
@@ -200,8 +200,8 @@ def said(match, besides):
     row = {KEYS.get(key, key): READ.get(key, str)(text) for key, text in match.groupdict().items() if text is not None}
     if "indent" in row:
         row["depth"] = len(row.pop("indent")) // 2
-    if "rest" in row:
-        row["settled"] = row.pop("rest") == "settled"
+    if "convergence" in row:
+        row["converged"] = row.pop("convergence") == "converged"
     if "source" in row:
         row["source"] = SOURCES.get(row["source"], row["source"].removeprefix("source "))
     if row.pop("put_on", None):
@@ -256,7 +256,7 @@ def table_of(command, text):
 
     document = document_of(command, text)
     if command == "survive":
-        titles = ["down", "name", "other", "settled", "ticks", "forest", "accepted"]
+        titles = ["down", "name", "other", "converged", "ticks", "forest", "accepted"]
         return [titles] + [[cell(row.get(key, "")) for key in titles] for row in document["failures"]]
     table = [["kind", "name", "direction", "entered", "left", "filtered", "taken", "lost"]]
     for it in document["ports"]:
