@@ -1,4 +1,4 @@
-# Completions of pbnet for bash. scripts/manual.py made them from the help of pbnet 0.19.0.
+# Completions of pbnet for bash. scripts/manual.py made them from the help of pbnet 0.20.0.
 
 # Sets `options` to the options of the command $1, and `places` to what each of its arguments can be: words, or @file.
 # Sets `repeats` if the last argument can be repeated.

@@ -1,4 +1,4 @@
-# Completions of pbnet for fish. scripts/manual.py made them from the help of pbnet 0.19.0.
+# Completions of pbnet for fish. scripts/manual.py made them from the help of pbnet 0.20.0.
 
 complete -c pbnet -f
 complete -c pbnet -n __fish_use_subcommand -s h -l help -d 'Print help'
@@ -19,7 +19,7 @@ complete -c pbnet -n __fish_use_subcommand -a init -d 'Print a starter plan'
 complete -c pbnet -n __fish_use_subcommand -a help -d 'Print this message or the help of the given subcommand(s)'
 complete -c pbnet -n '__fish_seen_subcommand_from flat' -s h -l help -d 'Print help'
 complete -c pbnet -n '__fish_seen_subcommand_from check' -l strict -d 'Exit with status 4 if there is a warning'
-complete -c pbnet -n '__fish_seen_subcommand_from check' -l settle -d 'Also report the forest after convergence; --ticks limits the wait'
+complete -c pbnet -n '__fish_seen_subcommand_from check' -l settle -d 'Also report the forest after convergence; --ticks limits the wait [alias: --converge]'
 complete -c pbnet -n '__fish_seen_subcommand_from check' -l ticks -x -d 'Wait at most N ticks for convergence [default: 200] [range: 1-1000000]'
 complete -c pbnet -n '__fish_seen_subcommand_from check' -l all -d 'Report all errors of the plan, at most 50'
 complete -c pbnet -n '__fish_seen_subcommand_from check' -l format -x -a 'text json' -d 'Format of the report [default: text]'
