@@ -282,10 +282,16 @@ def client(part, library, most):
         common.wait_for(room.path / "control")
         path = room.path / "control"
         wait_for_ports(path)
+
+        def check(room, ended, there):
+            """Judges the answers, and enables the link again: a client may end between `down` and `up`."""
+            room.run(PROGRAM, "control", path, "up", "L1")
+            return refusals.wrong_answer(room, ended, there)
+
         for kind, words, given in (("control", ["control", path, *ASKED], b""),
                                    ("control, standard input", ["control", path, "-"], b"counts\nhelp\ntree\n"),
                                    ("control, a wrong command", ["control", path, "cuonts"], b"")):
-            refusals.sweep(part, kind, words, refusals.wrong_answer, (library, {}, given, most))
+            refusals.sweep(part, kind, words, check, (library, {}, given, most))
         ended = room.run(PROGRAM, "control", path, "stop")
         why = None if (ended.out, run.wait(20)) == (b"ok\n", 0) else f"stop: {ended.out!r}"
         part.judge("memory, the run of these clients", why, room, ended)
